@@ -6,6 +6,7 @@ use Rattle.lpm_groups.specs.declared.GroupState.{GroupState}
 use Rattle.lpm_groups.specs.declared.GroupState.TheVariants.{Linked, Free, Limbo}
 use Rattle.lpm_groups.specs.States.{IsLeastFree, IsLinkedTo, IsLimboAt, IsFreeAt, is_free, is_linked, free_count, linked_count}
 use Rattle.lpm_groups.proofs.Marking.{slice_get-set_other, slice_get-set_same, Releases-set, Retires-set, Takes-set, counts-total, count_by-some}
+use Rattle.lpm_update.specs.Tied.{SameLinksBut}
 use Rattle.lpm_writer.specs.Waiting.{IsFreed, AreWaiting, IsQueued, IsTaken, tokens_of}
 use Rattle.lpm_writer.specs.Taking.{LinksLeast, MayTake}
 use Rattle.std.proofs.Math.ListN.{length-set}
@@ -128,29 +129,54 @@ free_limbo q = cc
 
 -- ---- a group that is retired: its state becomes limbo, the first n items are freed, and it goes last
 
-pub retired_queue : (xs zs : List GroupState) (q : Queue) (g b t n : ℕ) → IsLinkedTo xs g b → IsQueued xs q → n ≤ length q.items
-    → IsFreed (slice_set xs g Limbo) q.items n zs → AreWaiting zs (drop n q.items) → IsQueued zs (record q { items = drop n q.items ++ (g, t) ∷ [] })
-retired_queue xs zs q g b t n at queued few freed waits =
-    let apart = absent_other xs g (Linked b) q.items at (linked_limbo b) queued.waiting in
-    let here = slice_get-set_same xs g Limbo (slice_get_within xs g (Linked b) at) in
-    let one = Retires-set xs g b at in
-    record {
-      waiting = waiting_last zs g t (drop n q.items) (freed.others g apart ∙ here) (absent_drop g n q.items apart) waits;
-      all = omega (arith, length-append (drop n q.items) ((g, t) ∷ []), length-drop n q.items, few, freed.limbo, one.limbo, queued.all);
-      room = queued.room ∙ sym (freed.as_many ∙ length-set xs g Limbo);
-    }
+-- from the old pool to the new one
+pub record MadeRoom (old : GroupPool) (g : ℕ) (new : GroupPool) : Type 0 where
+  pub n : ℕ
+  pub few : n ≤ length old.queue.items
+  pub queue : new.queue ≡ record old.queue { items = drop n old.queue.items }
+  pub waits : AreWaiting new.groups new.queue.items
+  pub freed : IsFreed (slice_set old.groups g Limbo) old.queue.items n new.groups
+
+-- no item is freed
+pub no_more_room : (old new : GroupPool) (g : ℕ) → new ≡ record old { groups = slice_set old.groups g Limbo }
+    → AreWaiting (slice_set old.groups g Limbo) old.queue.items → MadeRoom old g new
+no_more_room old new g same waits = subst (MadeRoom old g) (sym same) (record {
+  n = 0;
+  few = omega arith;
+  queue = refl;
+  waits = waits;
+  freed = is_freed 0 old.queue.items (slice_set old.groups g Limbo) (omega arith) waits;
+})
+
+pub retired_queue : (old new : GroupPool) (g b t : ℕ) → IsLinkedTo old.groups g b → IsQueued old.groups old.queue → MadeRoom old g new
+    → IsQueued new.groups (record new.queue { items = new.queue.items ++ (g, t) ∷ [] })
+retired_queue old new g b t at queued made =
+    let apart = absent_other old.groups g (Linked b) old.queue.items at (linked_limbo b) queued.waiting in
+    let here = slice_get-set_same old.groups g Limbo (slice_get_within old.groups g (Linked b) at) in
+    let one = Retires-set old.groups g b at in
+    let left = drop made.n old.queue.items in
+    let waits = subst (λ (q : Queue). AreWaiting new.groups q.items) made.queue made.waits in
+    subst (λ (q : Queue). IsQueued new.groups (record q { items = q.items ++ (g, t) ∷ [] })) (sym made.queue) (record {
+      waiting = waiting_last new.groups g t left (made.freed.others g apart ∙ here) (absent_drop g made.n old.queue.items apart) waits;
+      all = omega (arith, length-append left ((g, t) ∷ []), length-drop made.n old.queue.items, made.few, made.freed.limbo, one.limbo, queued.all);
+      room = queued.room ∙ sym (made.freed.as_many ∙ length-set old.groups g Limbo);
+    })
 
 pub retired_room : (xs : List GroupState) (q : Queue) (g b n : ℕ) → IsLinkedTo xs g b → IsQueued xs q → length (drop n q.items) < q.capacity
 retired_room xs q g b n at queued = omega (arith, length-drop n q.items, queued.all, queued.room, counts-total xs, count_by-some is_linked xs g (Linked b) at refl)
 
-pub retired_others : (xs zs : List GroupState) (items : List (ℕ × ℕ)) (g n : ℕ) → IsFreed (slice_set xs g Limbo) items n zs → (h c : ℕ) → h ≢ g → IsLinkedTo zs h c ↔ IsLinkedTo xs h c
-retired_others xs zs items g n freed h c other =
-    let e = slice_get-set_other xs g h Limbo other in
-    let k = freed.links h c in
+pub retired_linked : (old new : GroupPool) (g b : ℕ) → IsLinkedTo old.groups g b → MadeRoom old g new → linked_count new.groups + 1 ≡ linked_count old.groups
+retired_linked old new g b at made = omega (arith, made.freed.linked, (Retires-set old.groups g b at).linked)
+
+pub retired_others : (old new : GroupPool) (g : ℕ) → MadeRoom old g new → SameLinksBut g old.groups new.groups
+retired_others old new g made h c other =
+    let e = slice_get-set_other old.groups g h Limbo other in
+    let k = made.freed.links h c in
     ((λ l. sym e ∙ k.0 l), (λ l. k.1 (e ∙ l)))
 
-pub retired_gone : (xs zs : List GroupState) (items : List (ℕ × ℕ)) (g b n : ℕ) → IsLinkedTo xs g b → IsFreed (slice_set xs g Limbo) items n zs → (c : ℕ) → ¬ IsLinkedTo zs g c
-retired_gone xs zs items g b n at freed c l = limbo_linked (slice_get (slice_set xs g Limbo) g) c (slice_get-set_same xs g Limbo (slice_get_within xs g (Linked b) at)) ((freed.links g c).0 l)
+pub retired_gone : (old new : GroupPool) (g b : ℕ) → IsLinkedTo old.groups g b → MadeRoom old g new → (c : ℕ) → ¬ IsLinkedTo new.groups g c
+retired_gone old new g b at made c l =
+    limbo_linked (slice_get (slice_set old.groups g Limbo) g) c (slice_get-set_same old.groups g Limbo (slice_get_within old.groups g (Linked b) at)) ((made.freed.links g c).0 l)
 
 -- ---- a group that is taken
 
@@ -249,20 +275,14 @@ module _ {X : Type 0} (t : Transitions X) where
   reclaims_none x z limbo (u ∷ left) zero (Some busy) r none =
       (u, ap (λ xs. slice_get xs 0) (sym r.front.0), subst (λ y. t.checks y u (Err busy) z) r.front.1 r.end.1)
 
-  -- a reclaim of none does nothing
-  reclaims_zero : (x z : X) (limbo left : List ℕ) (n : ℕ) (stopped : Option Busy) → Reclaims t x 0 limbo n stopped left z → (left ≡ limbo) × (z ≡ x)
-  reclaims_zero x z limbo left (suc n) stopped r = absurd (let m = r.at_most in omega (arith, m))
-  reclaims_zero x z limbo left zero None r = (r.front.0, r.end.1 ∙ r.front.1)
-  reclaims_zero x z limbo [] zero (Some busy) r = absurd r.end
-  reclaims_zero x z limbo (u ∷ left) zero (Some busy) r = absurd (let w = r.end.0 in omega (arith, w))
+  -- above the threshold room is made by a reclaim
+  pub room_above : (config : Config) (x z : X) (limbo left : List ℕ) (n : ℕ) (stopped : Option Busy) → config.threshold < length limbo
+      → Reclaims t x config.reclaim_max limbo n stopped left z → MakesRoom t config x limbo left z
+  room_above config x z limbo left n stopped more r = ((λ _. (n, stopped, r)), (λ less. absurd (omega (arith, more, less))))
 
-  -- room is made by a reclaim of none up to the threshold, and of `reclaim_max` above it
-  pub makes_room : (config : Config) (x z : X) (limbo left : List ℕ) (max n : ℕ) (stopped : Option Busy) (waiting : ℕ) → waiting ≡ length limbo
-      → (waiting ≤ config.threshold → max ≡ 0) → (config.threshold < waiting → max ≡ config.reclaim_max) → Reclaims t x max limbo n stopped left z → MakesRoom t config x limbo left z
-  makes_room config x z limbo left max n stopped waiting long few many r = (
-    (λ more. (n, stopped, subst (λ k. Reclaims t x k limbo n stopped left z) (many (omega (arith, long, more))) r)),
-    (λ less. reclaims_zero x z limbo left n stopped (subst (λ k. Reclaims t x k limbo n stopped left z) (few (omega (arith, long, less))) r)),
-  )
+  -- up to it nothing is done
+  pub room_below : (config : Config) (x : X) (limbo : List ℕ) → length limbo ≤ config.threshold → MakesRoom t config x limbo limbo x
+  room_below config x limbo less = ((λ more. absurd (omega (arith, more, less))), (λ _. (refl, refl)))
 
 -- ---- what a reclaim asks and leaves between updates
 

@@ -46,17 +46,6 @@ pub(crate) fn free_waiting<M: Memory>(pool: &mut GroupPool, memory: &mut M, max:
     queue.reclaim(max, &mut grace)
 }
 
-/// How many groups are freed at most before one more waits: none, up to `threshold` of them.
-fn most_freed(waiting: usize, config: &Config) -> usize
-    ensures few { waiting ≤ config.now.threshold → result ≡ 0 }
-    ensures many { config.now.threshold < waiting → result ≡ config.now.reclaim_max }
-{
-    if waiting <= config.threshold {
-        return 0;
-    }
-    config.reclaim_max
-}
-
 /// The group has lost its block: it waits in limbo from now on, under a token of its own. Where more
 /// than `threshold` groups wait already, some are reclaimed first.
 pub(crate) fn retire_group<M: Memory>(
@@ -84,8 +73,9 @@ pub(crate) fn retire_group<M: Memory>(
 {
     let token = memory.start();
     pool.groups.retire(group);
-    let max = most_freed(pool.queue.len(), config);
-    free_waiting(pool, memory, max);
+    if pool.queue.len() > config.threshold {
+        free_waiting(pool, memory, config.reclaim_max);
+    }
     pool.queue.retire(group, token);
 }
 
