@@ -129,7 +129,7 @@ free_limbo q = cc
 
 -- ---- a group that is retired: its state becomes limbo, the first n items are freed, and it goes last
 
--- from the old pool to the new one
+-- the group is in limbo, and of the items that waited the first n were freed
 pub record MadeRoom (old : GroupPool) (g : ℕ) (new : GroupPool) : Type 0 where
   pub n : ℕ
   pub few : n ≤ length old.queue.items

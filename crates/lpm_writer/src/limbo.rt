@@ -73,7 +73,8 @@ pub(crate) fn retire_group<M: Memory>(
 {
     let token = memory.start();
     pool.groups.retire(group);
-    if pool.queue.len() > config.threshold {
+    let is_above_threshold = pool.queue.len() > config.threshold;
+    if is_above_threshold {
         free_waiting(pool, memory, config.reclaim_max);
     }
     pool.queue.retire(group, token);
