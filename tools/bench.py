@@ -268,7 +268,8 @@ LOOKUPS = (
     ("pass by fours, random", "`Pass::lookup4`, each of four random addresses", "`Pass::lookup`",
      "ratio, pass by fours, random"),
     ("pass, ascending", "`Pass::lookup`, ascending addresses", "`Fib::lookup`", "ratio, pass, ascending"),
-    ("answering alone, 4 workers", "`bulk_plain`, an address on four threads", "on one", "ratio, answering alone"),
+    ("answering alone, 4 workers", "`bulk_plain`'s answering alone, an address on four threads", "on one",
+     "ratio, answering alone"),
 )
 
 
