@@ -106,8 +106,8 @@ void saxiko_table_close(struct saxiko_table *table);
 
 /* Adds a rule, or gives the prefix's rule another next hop. It returns SAXIKO_ADDED, SAXIKO_REPLACED or
  * SAXIKO_UNCHANGED. -EINVAL: a depth above 32, or a next hop above SAXIKO_HOP_MAX. -ENOSPC: there are as many rules as
- * `rules` allows, or no group is free. -ENOMEM. -EOVERFLOW: 2^61 versions were made, or 2^62 tokens. On the table's
- * thread. */
+ * `rules` allows, or no group is free. -ENOMEM. -EOVERFLOW: 2^61 versions were made, or fewer tokens of 2^62 are left
+ * than there are groups. On the table's thread. */
 int32_t saxiko_table_add(struct saxiko_table *table, uint32_t addr, uint8_t depth, uint32_t hop);
 
 /* As add, and stores the next hop that the prefix had, where it had a rule; where it had none `*old` stays as it was. It

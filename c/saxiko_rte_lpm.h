@@ -61,13 +61,13 @@ static inline struct rte_lpm *rte_lpm_create(const char *name, int socket_id, co
     return NULL;
 }
 
-/* 0, or -EINVAL, -ENOSPC, -ENOMEM. */
+/* 0, or an error of saxiko_table_add. */
 static inline int rte_lpm_add(struct rte_lpm *lpm, uint32_t ip, uint8_t depth, uint32_t next_hop) {
     int32_t status = saxiko_table_add(lpm ? &lpm->table : NULL, ip, depth, next_hop);
     return status < 0 ? status : 0;
 }
 
-/* 0, or -EINVAL where there is no such rule, as in DPDK. */
+/* 0, or an error of saxiko_table_delete, with -EINVAL where there is no such rule, as in DPDK. */
 static inline int rte_lpm_delete(struct rte_lpm *lpm, uint32_t ip, uint8_t depth) {
     uint32_t hop;
     int32_t status = saxiko_table_delete(lpm ? &lpm->table : NULL, ip, depth, &hop);
