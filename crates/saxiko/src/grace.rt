@@ -18,7 +18,7 @@ use std::sync::Arc;
 
 /// The owner of a running table while a grace period lasts: a token was started, and no check of it has
 /// passed. The check gives the owner back once it passes; until then the table isn't changed, and its
-/// readers go on.
+/// readers go on. Where this is dropped they still do, and nobody changes the table any more.
 #[derive(Drop)]
 pub struct GracePeriod {
     table: Arc<SharedTable<24, 8>>,

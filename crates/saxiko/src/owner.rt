@@ -40,6 +40,8 @@ use std::sync::{Arc, Wait};
 ///
 /// A group that is given up waits in limbo under a token of its own. Whichever call frees it, each worker's
 /// counter was loaded after that token was there, and was 0 or at least the token.
+///
+/// Where an owner is dropped its readers go on, and nobody changes the table any more.
 #[derive(Drop)]
 pub struct Owner {
     pub(crate) table: Arc<SharedTable<24, 8>>,
@@ -319,7 +321,7 @@ impl Owner {
         self.writer.versions()
     }
 
-    /// The token number: that of the opening and, for each group that was given up and each synchronize,
+    /// The token number: that of the opening and, for each group that was given up and each grace period,
     /// one more.
     pub fn token(&mut self) -> u64
         ensures same { self.new ≡ self.old }

@@ -18,7 +18,8 @@ use shared_words::WriterSeat;
 use std::marker::Model;
 
 /// The writer of a running table while a grace period lasts: a token was started, and no check of it has
-/// passed. The check gives the writer back once it passes; until then there are no changes.
+/// passed. The check gives the writer back once it passes; until then there are no changes. Where this is
+/// dropped the passes go on, and nobody changes the table any more.
 #[derive(Drop)]
 pub struct GracePeriod<const FIRST: u32, const SECOND: u32> {
     control: ControlState<FIRST, SECOND>,

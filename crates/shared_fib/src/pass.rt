@@ -28,8 +28,8 @@ pub struct FourHops {
 ///
 /// No call of a pass waits or takes memory, and each lookup has an answer.
 ///
-/// A pass that is dropped makes no report. Where it was online, it holds each group that is given up from
-/// then on, for ever; and its number stays taken. [`Bench::unregister`](crate::Bench::unregister) takes it
+/// A pass that is dropped makes no report. Where it was online, it holds each group given up since its last
+/// report, for ever; and its number stays taken. [`Bench::unregister`](crate::Bench::unregister) takes it
 /// back.
 #[derive(Drop)]
 pub struct Pass {

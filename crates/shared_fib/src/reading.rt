@@ -62,7 +62,7 @@ impl<const FIRST: u32, const SECOND: u32> Writer<FIRST, SECOND> {
         self.control.versions
     }
 
-    /// The token number: that of the opening and, for each unlinking and each synchronize, one more.
+    /// The token number: that of the opening and, for each unlinking and each grace period, one more.
     pub fn token(&mut self, table: &SharedTable<FIRST, SECOND>) -> u64
         requires own { self.old.identity ≡ table.now }
         ensures same { self.new ≡ self.old }

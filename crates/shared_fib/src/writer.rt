@@ -23,6 +23,8 @@ use std::marker::Model;
 ///
 /// A group that is given up waits in limbo under a token of its own. Whichever call frees it, each worker's
 /// counter was loaded after that token was there, and was 0 or at least the token.
+///
+/// Where a writer is dropped the passes go on, and nobody changes the table any more.
 #[derive(Drop)]
 pub struct Writer<const FIRST: u32, const SECOND: u32> {
     pub(crate) control: ControlState<FIRST, SECOND>,

@@ -172,6 +172,9 @@ fn finish<R: Threads + Wait + Sync, const FIRST: u32, const SECOND: u32>(
 /// The limits are those of [`Plan::table_limits`], which refuses a plan that can't be run. All room for answers
 /// is made before a thread starts. Want of memory, in a thread too, and a thread that can't be started end all
 /// threads. `Exhausted` comes where fewer tokens than groups are left in the end.
+///
+/// Of the writer and the passes that a storm takes none comes back: nobody changes the table then, and the
+/// numbers of those passes stay taken.
 pub fn run<R: Threads + Wait + Sync, G: Gate, const FIRST: u32, const SECOND: u32>(
     rt: &R,
     alloc: Global,
