@@ -53,19 +53,19 @@ pub fn empty_has_no_block()
     ensures { EmptyHasNoBlock }
 {}
 
-/// A prefix that no change of a list is of keeps its rule.
+/// A prefix that each change spares keeps its rule.
 #[tactic(auto, using(crate::proofs::Longest::spared_is_kept))]
 pub fn spared_prefix_keeps_its_rule()
     ensures { SparedIsKept }
 {}
 
-/// The last addition of a prefix decides its next hop.
+/// A prefix that each change after its addition spares has the next hop of that addition.
 #[tactic(auto, using(crate::proofs::Longest::last_addition_decides))]
 pub fn last_addition_decides()
     ensures { LastAdditionDecides }
 {}
 
-/// A prefix has no rule after its last deletion.
+/// A prefix that each change after its deletion spares has no rule.
 #[tactic(auto, using(crate::proofs::Longest::last_deletion_decides))]
 pub fn last_deletion_decides()
     ensures { LastDeletionDecides }

@@ -3,7 +3,7 @@
 use std::error::Error;
 use std::fmt;
 
-/// The tokens would pass their bound.
+/// Fewer tokens than groups are left.
 #[derive(Clone, Copy, Debug, PartialEq, Eq)]
 pub struct Exhausted;
 

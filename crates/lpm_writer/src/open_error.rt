@@ -13,7 +13,7 @@ use std::fmt;
 pub enum OpenError {
     /// A limit lies outside its range.
     BadConfig,
-    /// There is too little memory for the words, the groups or the workers.
+    /// There is too little memory, or a list has more than 67,108,864 rules.
     Memory,
 }
 

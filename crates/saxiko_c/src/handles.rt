@@ -15,7 +15,8 @@ use std::alloc::Global;
 use std::marker::Model;
 use std::ptr::null_mut;
 
-/// A table of one thread, or none. C declares it as `struct saxiko_table { void *at; bool is_open; };`
+/// A table of one thread, or none. C declares it as `struct saxiko_table`, which has a `number` behind
+/// `is_open`, not used here.
 #[repr(C)]
 pub struct SaxikoTable {
     at: *mut u8,
@@ -75,7 +76,8 @@ impl Drop for SaxikoTable {
 
 unsafe impl Send for SaxikoTable {}
 
-/// A writer of a running table, or none. C declares it as `struct saxiko_writer { void *at; bool is_open; };`
+/// A writer of a running table, or none. C declares it as `struct saxiko_writer`, which has a `number` behind
+/// `is_open`, not used here.
 #[repr(C)]
 pub struct SaxikoWriter {
     at: *mut u8,
@@ -135,7 +137,8 @@ impl Drop for SaxikoWriter {
 
 unsafe impl Send for SaxikoWriter {}
 
-/// A reader of a running table, or none. C declares it as `struct saxiko_reader { void *at; bool is_open; };`
+/// A reader of a running table, or none. C declares it as `struct saxiko_reader`, which has a `number` behind
+/// `is_open`, not used here.
 #[repr(C)]
 pub struct SaxikoReader {
     at: *mut u8,

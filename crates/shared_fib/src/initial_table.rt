@@ -4,9 +4,8 @@ use lpm_groups::Groups;
 use lpm_rules::Rules;
 use shared_words::{InitialContent, Layout};
 
-/// What a running table takes over of a table of one thread, once no worker looks up any more: its words
-/// and the newest token, as the list of shared words has them, where each of them lies, the rules and the
-/// groups. A running table goes on from it.
+/// What a running table is opened with: its words and the newest token, as the list of shared words has
+/// them, where each of them lies, the rules and the groups.
 #[derive(Drop)]
 pub struct InitialTable<const FIRST: u32, const SECOND: u32> {
     pub words: Vec<u64>,
