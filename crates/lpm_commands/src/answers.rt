@@ -13,8 +13,8 @@ use lpm_limits::Refusal;
 use std::alloc::Global;
 use std::thread::Threads;
 
-/// A line for each address with its answer by this table, answered and written by as many threads as it has
-/// workers.
+/// A line for each address with its answer by this table, answered and written on at most as many threads as
+/// it has workers.
 pub fn text_of_answers<'a, R: Threads + Sync, G: Gate>(
     rt: &R,
     alloc: Global,
@@ -35,8 +35,8 @@ pub fn text_of_answers<'a, R: Threads + Sync, G: Gate>(
 }
 
 /// A line for each address with its answer by a running table that was just opened. Each of its workers
-/// answers a piece of the addresses by its own pass, on its own thread. The lines are written on as many
-/// threads, when the table is gone.
+/// answers a piece of the addresses by its own pass, on its own thread where one can be had. The lines are
+/// written on at most as many threads, when the table is gone.
 pub fn text_of_live_answers<'a, R: Threads + Sync, G: Gate>(
     rt: &R,
     alloc: Global,

@@ -58,7 +58,7 @@ fn unread(path: &str, e: io::Error) -> Failure<'_>
     }
 }
 
-/// Writes all of the text. An interrupted write is made once more. `CannotWrite` comes where a write
+/// Writes all of the text. An interrupted write is made again. `CannotWrite` comes where a write
 /// fails otherwise, or takes no byte though some are left.
 pub fn put_text<'a, W: Write>(out: &mut W, text: &[u8]) -> Result<(), Failure<'a>>
     ensures all { OnOk result (Appends (W.contents out.old) (W.contents out.new) text.now) }

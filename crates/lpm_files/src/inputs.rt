@@ -130,8 +130,8 @@ pub fn read_list<'a, L: FileKind, F: Files>(
 }
 
 /// The addresses of the file at the path, as `read_list::<Addresses, F>` gives them. The file is read whole,
-/// and then parsed in pieces on at most so many threads. The pieces are cut where lines end, and have 64 KiB or
-/// about that. Where a thread can't be had its piece is parsed by the thread that asks.
+/// and then parsed in pieces on at most so many threads. The pieces are cut where lines end, and have at
+/// least 64 KiB or about that. Where a thread can't be had its piece is parsed by the thread that asks.
 pub fn read_addresses_on<'a, R: Threads + Sync, F: Files>(
     rt: &R,
     alloc: Global,

@@ -51,8 +51,8 @@ pub(crate) trait PiecewiseFile {
 }
 
 /// The items that the bytes list, or their first fault, read in pieces on at most so many threads. The
-/// pieces are cut where lines end, and have 64 KiB or about that. Where a thread can't be had its piece
-/// is read by the thread that asks.
+/// pieces are cut where lines end, and have at least 64 KiB or about that. Where a thread can't be had its
+/// piece is read by the thread that asks.
 #[cycle(parsing)]
 pub(crate) fn parse_on<R: Threads + Sync, T: Copy + Send, F: PiecewiseFile<Item = T> + Sync>(
     rt: &R,

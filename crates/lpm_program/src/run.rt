@@ -21,7 +21,7 @@ use std::sync::Wait;
 use std::thread::Threads;
 
 /// Runs the command of these words, of which the first is the program's name, and returns the exit
-/// status. Faults go to `err`, one line each.
+/// status. What is wrong goes to `err`.
 pub fn run<R: Threads + Wait + Sync, S: AsStr, F: Files, O: Write, E: Write>(
     rt: &R,
     alloc: Global,
