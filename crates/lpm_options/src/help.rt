@@ -248,8 +248,8 @@ The number of groups, 1 to 65536. Each block of 256 addresses with a route
 longer than 24 bits needs one";
 
 pub(crate) const WORKERS: &str = "\
-The number of workers, 0 to 1024. They look the addresses up, which takes at
-least 1. An update file names them by the numbers from 0 to N - 1";
+The number of workers, 0 to 1024. Looking addresses up takes at least 1 of
+them. An update file names them by the numbers from 0 to N - 1";
 
 pub(crate) const THRESHOLD: &str = "\
 A group that was given up waits in limbo until no worker can hold it. Where
