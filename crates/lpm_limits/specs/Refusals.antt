@@ -1,5 +1,5 @@
--- Meaning: each refusal's number and name (this project's profile).
-use Rattle.std.specs.Prelude.{ℕ, ◌==◌, cond, List, [], ◌∷◌, Option, Some, None, codes}
+-- Meaning: each refusal's number and name, and that each has its own (this project's profile).
+use Rattle.std.specs.Prelude.{ℕ, ◌≡◌, List, None, codes}
 use Rattle.lpm_limits.specs.declared.refusal.Refusal.{Refusal}
 use Rattle.lpm_limits.specs.declared.refusal.Refusal.TheVariants as refusals
 
@@ -20,18 +20,14 @@ row_of refusals.NoThread = (12, codes "NoThread")
 row_of refusals.NotOnline = (13, codes "NotOnline")
 row_of refusals.AlreadyOnline = (14, codes "AlreadyOnline")
 
--- the refusals, each once
-abbrev pub all_refusals : List Refusal
-all_refusals = refusals.BadLength ∷ refusals.BadHop ∷ refusals.TooManyRules ∷ refusals.NoSuchRule
-    ∷ refusals.BadConfig ∷ refusals.Exhausted ∷ refusals.NoGroups None ∷ refusals.NoWorkers
-    ∷ refusals.Memory ∷ refusals.NoSuchWorker ∷ refusals.Taken ∷ refusals.NoThread
-    ∷ refusals.NotOnline ∷ refusals.AlreadyOnline ∷ []
+-- a refusal without the worker that `NoGroups` names
+abbrev pub kind_of : Refusal → Refusal
+kind_of (refusals.NoGroups oldest) = refusals.NoGroups None
+kind_of refusal = refusal
 
--- the name of the first of these refusals that has the number
-abbrev pub name_among : List Refusal → ℕ → Option (List ℕ)
-name_among [] number = None
-name_among (r ∷ rs) number = cond ((row_of r).0 == number) (Some (row_of r).1) (name_among rs number)
+-- the laws that no two refusals have one number, and no two one name
+abbrev pub HaveOwnNumbers : Type 0
+HaveOwnNumbers = (a b : Refusal) → (row_of a).0 ≡ (row_of b).0 → kind_of a ≡ kind_of b
 
--- the name that goes with the number
-abbrev pub name_of : ℕ → Option (List ℕ)
-name_of number = name_among all_refusals number
+abbrev pub HaveOwnNames : Type 0
+HaveOwnNames = (a b : Refusal) → (row_of a).1 ≡ (row_of b).1 → kind_of a ≡ kind_of b

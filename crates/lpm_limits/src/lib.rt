@@ -3,6 +3,7 @@
 
 mod busy;
 mod config;
+pub mod laws;
 mod refusal;
 
 pub use busy::Busy;

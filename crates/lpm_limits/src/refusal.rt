@@ -1,5 +1,5 @@
-ghost use Rattle.std.specs.Prelude.{◌≡◌, IfSome, IfNone};
-ghost use Rattle.lpm_limits.specs.Refusals.{row_of, name_of};
+ghost use Rattle.std.specs.Prelude.{◌≡◌};
+ghost use Rattle.lpm_limits.specs.Refusals.{row_of};
 ghost use Rattle.lpm_limits.specs.declared.refusal.Refusal.TheVariants.{Memory as IsMemory};
 
 use crate::Busy;
@@ -45,24 +45,6 @@ pub enum Refusal {
     AlreadyOnline,
 }
 
-/// The refusals, each once.
-const REFUSALS: [Refusal; 14] = [
-    Refusal::BadLength,
-    Refusal::BadHop,
-    Refusal::TooManyRules,
-    Refusal::NoSuchRule,
-    Refusal::BadConfig,
-    Refusal::Exhausted,
-    Refusal::NoGroups { oldest: None },
-    Refusal::NoWorkers,
-    Refusal::Memory,
-    Refusal::NoSuchWorker,
-    Refusal::Taken,
-    Refusal::NoThread,
-    Refusal::NotOnline,
-    Refusal::AlreadyOnline,
-];
-
 impl Refusal {
     /// The number by which output names the refusal, from 1 to 14.
     pub fn number(self) -> u8
@@ -76,20 +58,6 @@ impl Refusal {
         ensures { result.now ≡ (row_of self).1 }
     {
         self.row().1
-    }
-
-    /// The name that goes with a number; none where no refusal has the number.
-    pub fn name_of(number: u32) -> Option<&'static str>
-        ensures found { IfSome result (λ name. name_of number ≡ Some name.now) }
-        ensures missing { IfNone result (name_of number ≡ None) }
-        ensures each { (r : Refusal) → name_of (row_of r).0 ≡ Some (row_of r).1 }
-    {
-        for refusal in REFUSALS {
-            if u32::from(refusal.number()) == number {
-                return Some(refusal.name());
-            }
-        }
-        None
     }
 
     fn row(self) -> (u8, &'static str)

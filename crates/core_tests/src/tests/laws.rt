@@ -1,5 +1,7 @@
 #[test]
 fn laws_are_called() {
+    lpm_limits::laws::refusals_have_own_numbers();
+    lpm_limits::laws::refusals_have_own_names();
     lpm_rules::laws::collected_is_of_length();
     lpm_rules::laws::collected_are_the_rules();
     lpm_update::laws::run_begins();

@@ -78,16 +78,3 @@ fn numbers_names_and_texts_of_refusals(rt: HostRuntime) {
         assert_refusal(&rt, rt.alloc(), row);
     }
 }
-
-#[test]
-fn names_of_numbers(rt: HostRuntime) {
-    let names = [
-        (0, None),
-        (1, Some("BadLength")),
-        (14, Some("AlreadyOnline")),
-        (15, None),
-    ];
-    for (number, name) in names {
-        assert_at(&rt, number, Refusal::name_of(number), name);
-    }
-}
