@@ -1,7 +1,7 @@
 //! The retired groups of a table, which wait until no reader can hold them any more.
 #![tactic(auto)]
 
-ghost use Rattle.std.specs.Prelude.{◌≡◌, ℕ, ◌+◌, ◌<◌, ◌≤◌, ◌==◌, ◌↔◌, List, [], ◌∷◌, ◌++◌, length, drop, slice_get, IsTrue, IfOk, OnOk, OnErr, MatchOption, Result};
+ghost use Rattle.std.specs.Prelude.{◌≡◌, ℕ, ◌+◌, ◌<◌, ◌≤◌, ◌==◌, List, [], ◌∷◌, ◌++◌, length, drop, slice_get, IfOk, OnOk, OnErr, MatchOption, Result};
 ghost use Rattle.lpm_limits.specs.declared.busy.Busy.{Busy};
 ghost use Rattle.defer_queue.specs.Reclaims.{Reclaims};
 
@@ -100,14 +100,6 @@ impl DeferQueue {
         ensures within { result ≤ self.now.capacity }
     {
         self.items.len()
-    }
-
-    /// Whether it has no room left, so that no group may be retired.
-    pub fn is_full(&self) -> bool
-        ensures full { IsTrue result ↔ (length self.now.items ≡ self.now.capacity) }
-        ensures within { length self.now.items ≤ self.now.capacity }
-    {
-        self.items.is_full()
     }
 
     /// Puts a group last, with the token that was started after it was given up. There has to be

@@ -48,14 +48,20 @@ impl Grace for Plain<'_> {
     }
 }
 
+// How many groups there are: the queue has a place for each.
+const GROUPS: usize = 3;
+
 // Retires the group under a new token, where that may be done.
 fn give_up(domain: &mut Domain, queue: &mut DeferQueue, tokens: &mut Vec<u64>, group: u32) -> bool
-    requires { AreRetired tokens.old.items queue.old.items }
+    requires places { queue.old.capacity ≡ 3 }
+    requires retired { AreRetired tokens.old.items queue.old.items }
+    ensures places { queue.new.capacity ≡ 3 }
     ensures retired { AreRetired tokens.new.items queue.new.items }
     ensures counters { domain.new.counters ≡ domain.old.counters }
 {
     let place = group as usize;
-    if domain.token() >= 1 << 62 || queue.is_full() || place >= tokens.len() || tokens[place] != 0 {
+    let is_full = queue.len() == GROUPS;
+    if domain.token() >= 1 << 62 || is_full || place >= tokens.len() || tokens[place] != 0 {
         return false;
     }
     let token = domain.start();
@@ -71,7 +77,9 @@ fn give_up_first(
     tokens: &mut Vec<u64>,
     groups: u32,
 ) -> u32
-    requires { AreRetired tokens.old.items queue.old.items }
+    requires places { queue.old.capacity ≡ 3 }
+    requires retired { AreRetired tokens.old.items queue.old.items }
+    ensures places { queue.new.capacity ≡ 3 }
     ensures retired { AreRetired tokens.new.items queue.new.items }
     ensures counters { domain.new.counters ≡ domain.old.counters }
 {
@@ -92,7 +100,8 @@ fn assert_first_given_up(
     groups: u32,
     wanted: u32,
 )
-    requires { AreRetired tokens.old.items queue.old.items }
+    requires places { queue.old.capacity ≡ 3 }
+    requires retired { AreRetired tokens.old.items queue.old.items }
     ensures retired { AreRetired tokens.new.items queue.new.items }
     ensures counters { domain.new.counters ≡ domain.old.counters }
 {
@@ -139,8 +148,8 @@ static FRONTS: [Option<(u32, u64)>; 4] = [Some((0, 2)), Some((1, 3)), Some((2, 4
 // A reclaim from a queue of three, under two workers with these counters.
 fn assert_reclaimed(rt: &impl Abort, alloc: Global, counters: [u64; 2], max: usize) {
     let mut domain = Domain::new(alloc, 2, 1).expect(rt, "a domain");
-    let mut queue = DeferQueue::new(alloc, 3).expect(rt, "a queue");
-    let mut tokens = vec![in alloc; 0u64; 3].expect(rt, "tokens");
+    let mut queue = DeferQueue::new(alloc, GROUPS).expect(rt, "a queue");
+    let mut tokens = vec![in alloc; 0u64; GROUPS].expect(rt, "tokens");
     assert_first_given_up(rt, &mut domain, &mut queue, &mut tokens, 3, 3);
     domain.set_counter(0, counters[0]);
     domain.set_counter(1, counters[1]);
@@ -162,32 +171,27 @@ fn reclaims_by_the_definition(rt: HostRuntime) {
     }
 }
 
-// How many wait, which is in front, and whether there is no room for more.
-fn assert_waiting(
-    rt: &impl Abort,
-    queue: &DeferQueue,
-    len: usize,
-    front: Option<(u32, u64)>,
-    is_full: bool,
-) {
-    let found = (queue.len(), queue.front(), queue.is_full());
-    assert_at(rt, "waiting", found, (len, front, is_full));
+// How many wait, and which is in front.
+fn assert_waiting(rt: &impl Abort, queue: &DeferQueue, len: usize, front: Option<(u32, u64)>) {
+    let found = (queue.len(), queue.front());
+    assert_at(rt, "waiting", found, (len, front));
 }
 
+// A queue with room for two, until each place is taken.
 #[test]
 fn calls_of_a_queue(rt: HostRuntime) {
     let mut queue = DeferQueue::new(rt.alloc(), 2).expect(&rt, "a queue");
-    assert_waiting(&rt, &queue, 0, None, false);
+    assert_waiting(&rt, &queue, 0, None);
     queue.retire(7, 1);
     queue.retire(8, 1 << 62);
-    assert_waiting(&rt, &queue, 2, Some((7, 1)), true);
+    assert_waiting(&rt, &queue, 2, Some((7, 1)));
     queue.take_front();
     queue.retire(9, 3);
-    assert_waiting(&rt, &queue, 2, Some((8, 1 << 62)), true);
+    assert_waiting(&rt, &queue, 2, Some((8, 1 << 62)));
 }
 
 #[test]
 fn a_queue_of_no_places(rt: HostRuntime) {
     let queue = DeferQueue::new(rt.alloc(), 0).expect(&rt, "a queue");
-    assert_waiting(&rt, &queue, 0, None, true);
+    assert_waiting(&rt, &queue, 0, None);
 }

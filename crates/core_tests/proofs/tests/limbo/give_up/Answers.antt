@@ -9,4 +9,4 @@ returns-clause-retired c =
     let within : c.args.group < length c.args.tokens.now.items = search rules in
     let none : get_or c.args.tokens.now.items c.args.group 0 ≡ 0 = search rules in
     let above : 0 < c.start-token.result = omega (arith, c.start-token.ensures.value) in
-    rw later (AreRetired-push c.args.tokens.now.items items c.args.group c.start-token.result within none above c.requires)
+    rw later (AreRetired-push c.args.tokens.now.items items c.args.group c.start-token.result within none above c.requires.retired)
