@@ -1,9 +1,9 @@
 //! The words in two vectors, for one thread.
 
-ghost use Rattle.std.specs.Prelude.{◌≡◌, ℕ, ◌+◌, ◌*◌, ◌^◌, ◌<◌, ◌≤◌, ◌↔◌, length, slice_index, replicate, IfOk, IsTrue};
+ghost use Rattle.std.specs.Prelude.{◌≡◌, ℕ, ◌+◌, ◌*◌, ◌^◌, ◌<◌, ◌≤◌, length, replicate, IfOk};
 ghost use Rattle.lpm_bits.specs.Widths.{IsShape};
 ghost use Rattle.lpm_cells.specs.Words.{IsFirstWord, IsWords, entry_at, with_first, with_second, IsLastWord, entry_in, hop_in, word_of};
-ghost use Rattle.lpm_cells.specs.declared.entry.Entry.TheVariants.{Group, Miss};
+ghost use Rattle.lpm_cells.specs.declared.entry.Entry.TheVariants.{Miss};
 
 use super::Cells;
 use crate::Entry;
@@ -89,18 +89,6 @@ impl<const FIRST: u32, const SECOND: u32> PlainCells<FIRST, SECOND> {
         ensures { result.now ≡ self.now.seconds }
     {
         self.second_words.as_slice()
-    }
-
-    /// Whether the first word at this place is a group's.
-    #[inline]
-    pub fn is_linked(&self, i: usize) -> bool
-        requires { i < 2 ^ FIRST }
-        ensures { IsTrue result ↔ ((g : ℕ) × (entry_in (slice_index self.now.firsts i) ≡ Group g)) }
-    {
-        match Entry::group_of_word::<FIRST, SECOND>(u64::from(self.first_words[i])) {
-            Some(_) => return true,
-            None => return false,
-        }
     }
 
     /// The last word that a lookup of the address reads, of one or two.

@@ -1,4 +1,4 @@
-ghost use Rattle.std.specs.Prelude.{◌≡◌, ℕ, ◌<◌, IsSome, IsTrue};
+ghost use Rattle.std.specs.Prelude.{◌≡◌, ℕ, ◌<◌, ◌↔◌, IsSome, IsTrue};
 ghost use Rattle.lpm_bits.specs.Widths.{IsShape};
 ghost use Rattle.lpm_rules.specs.RuleMap.{RuleMap};
 ghost use Rattle.lpm_update.specs.Linked.{IsTable, IsLinkTo};
@@ -6,7 +6,7 @@ ghost use Rattle.lpm_update.specs.Represents.{Represents, IsBegun, TurnsInto, Ad
 
 use super::asserting::assert_at;
 use lpm_bits::{Hop, Prefix, Shape};
-use lpm_cells::{Cells, PlainCells};
+use lpm_cells::{Cells, Entry, PlainCells};
 use lpm_rules::Rules;
 use lpm_update::{Did, Update};
 use std::alloc::{AllocError, Global};
@@ -31,13 +31,26 @@ fn record(rt: &impl Abort, made: &mut Vec<Did>, update: Update, cells: &mut Plai
     }
 }
 
+// Whether a block has a group: its first word is a group's.
+fn is_linked(cells: &PlainCells<4, 4>, block: usize) -> bool
+    requires { block < 16 }
+    ensures { IsTrue result ↔ ((g : ℕ) × IsLinkTo cells.now.firsts block g) }
+{
+    let _words = cells.seconds();
+    let word = u64::from(cells.first_words()[block]);
+    match Entry::group_of_word::<4, 4>(word) {
+        Some(_) => return true,
+        None => return false,
+    }
+}
+
 // Whether no block has a group.
 fn is_unlinked(cells: &PlainCells<4, 4>) -> bool
     ensures { IsTrue result → (i g : ℕ) → IsLinkTo cells.now.firsts i g → ⊥ }
 {
     let _words = cells.seconds();
     for block in 0..16usize {
-        if cells.is_linked(block) {
+        if is_linked(cells, block) {
             return false;
         }
     }
@@ -54,7 +67,7 @@ fn group_for(rt: &impl Abort, prefix: &Prefix<4, 4>, cells: &PlainCells<4, 4>) -
     if prefix.len() <= 4 {
         return None;
     }
-    if cells.is_linked(block) {
+    if is_linked(cells, block) {
         return None;
     }
     assert!(rt; cells.seconds() == 16);
