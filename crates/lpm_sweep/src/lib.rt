@@ -6,8 +6,7 @@
 //! stored once, where adding the rules one by one stores a word again for each rule that covers it.
 //! [`sweep_into`] puts the words into lists of the caller's, whatever keeps them ([`WordList`]).
 //!
-//! [`in_order`] brings rules into that order, and [`are_in_order`] says whether they are. Nothing
-//! here changes a table that is in use.
+//! [`in_order`] brings rules into that order. Nothing here changes a table that is in use.
 #![tactic(auto)]
 
 mod filling;
@@ -17,6 +16,6 @@ mod ordering;
 mod sweeping;
 mod word_list;
 
-pub use ordering::{MOST_SORTED, are_in_order, in_order};
+pub use ordering::{MOST_SORTED, in_order};
 pub use sweeping::{Swept, sweep, sweep_into};
 pub use word_list::WordList;

@@ -1,8 +1,8 @@
 //! The order of rules by their prefixes.
 
-ghost use Rattle.std.specs.Prelude.{◌≡◌, ℕ, ◌%◌, ◌^◌, ◌<◌, ◌≤◌, ◌↔◌, IsTrue, IfOk, length, slice_index};
+ghost use Rattle.std.specs.Prelude.{◌≡◌, ℕ, ◌%◌, ◌^◌, ◌<◌, ◌≤◌, IfOk, length, slice_index};
 ghost use Rattle.lpm_sweep.specs.Keys.{AreKeys, AreTaken};
-ghost use Rattle.lpm_rules.specs.RuleMap.{AreInOrder, place, rules_of};
+ghost use Rattle.lpm_rules.specs.RuleMap.{AreInOrder, rules_of};
 ghost use Rattle.lpm_sweep.specs.Listed.{AreReordered};
 
 use lpm_rules::{Rule, place_of};
@@ -12,22 +12,6 @@ use std::alloc::{AllocError, Global};
 ///
 /// It sorts numbers of 64 bits, of which 38 tell the prefix and 26 where the rule stands.
 pub const MOST_SORTED: usize = 1 << 26;
-
-/// Whether the rules are in the order of their prefixes: by the bits, and of those with the same
-/// bits by the length. Rules of one prefix may follow one another.
-pub fn are_in_order<const FIRST: u32, const SECOND: u32>(rules: &[Rule<FIRST, SECOND>]) -> bool
-    ensures { IsTrue result ↔ AreInOrder rules.now }
-{
-    let mut last = 0;
-    for rule in rules {
-        let place = place_of(rule);
-        if place < last {
-            return false;
-        }
-        last = place;
-    }
-    true
-}
 
 /// The number by which each rule is sorted: that of its prefix, and then where it stands.
 fn keys_of<const FIRST: u32, const SECOND: u32>(
@@ -62,8 +46,9 @@ fn rules_by_keys<const FIRST: u32, const SECOND: u32>(
     Ok(sorted)
 }
 
-/// A copy of the rules in the order of their prefixes (see [`are_in_order`]), in which those of one
-/// prefix keep their order. So the last rule of a prefix is still its last.
+/// A copy of the rules in the order of their prefixes: by the bits, and of those with the same bits
+/// by the length. Those of one prefix keep their order, so the last rule of a prefix is still its
+/// last.
 ///
 /// At most [`MOST_SORTED`] rules. `AllocError` where memory is short.
 pub fn in_order<const FIRST: u32, const SECOND: u32>(

@@ -114,10 +114,10 @@ fn put_group<const FIRST: u32, const SECOND: u32, W: WordList>(
 /// Puts the words of a table of these rules into the two lists, each word once, and returns the
 /// block of each group, from group 0 on.
 ///
-/// The rules are in the order of their prefixes (see [`are_in_order`](crate::are_in_order)); of
-/// those of one prefix the last counts. Each block in which a rule longer than `FIRST` bits lies
-/// gets a group, and no other does; group 0 belongs to the first such block. There are at most
-/// `groups` groups, of which a table has 65,536 at most.
+/// The rules are in the order of their prefixes (see [`in_order`](crate::in_order)); of those of
+/// one prefix the last counts. Each block in which a rule longer than `FIRST` bits lies gets a
+/// group, and no other does; group 0 belongs to the first such block. There are at most `groups`
+/// groups, of which a table has 65,536 at most.
 ///
 /// The lists are empty before. `None` exactly where more groups are needed, and `AllocError` where
 /// memory is short. After either the lists hold what was put so far.
@@ -179,10 +179,10 @@ pub fn sweep_into<const FIRST: u32, const SECOND: u32, W: WordList>(
 
 /// The words of a table of these rules, each stored once, and the blocks that have a group.
 ///
-/// The rules are in the order of their prefixes (see [`are_in_order`](crate::are_in_order)); of
-/// those of one prefix the last counts. Each block in which a rule longer than `FIRST` bits lies
-/// gets a group, and no other does; group 0 belongs to the first such block. There are at most
-/// `groups` groups, of which a table has 65,536 at most.
+/// The rules are in the order of their prefixes (see [`in_order`](crate::in_order)); of those of
+/// one prefix the last counts. Each block in which a rule longer than `FIRST` bits lies gets a
+/// group, and no other does; group 0 belongs to the first such block. There are at most `groups`
+/// groups, of which a table has 65,536 at most.
 ///
 /// `None` exactly where more groups are needed, and `AllocError` where memory is short.
 pub fn sweep<const FIRST: u32, const SECOND: u32>(

@@ -1,8 +1,10 @@
 //! Lists of rules, written as plain numbers or drawn.
+ghost use Rattle.std.specs.Prelude.{◌↔◌, IsTrue};
 ghost use Rattle.lpm_bits.specs.Widths.{IsShape};
+ghost use Rattle.lpm_rules.specs.RuleMap.{AreInOrder};
 
 use lpm_bits::{Hop, Prefix, Shape};
-use lpm_rules::Rule;
+use lpm_rules::{Rule, place_of};
 use std::alloc::Global;
 
 /// A rule as plain numbers: the bits of its prefix, its length and its next hop.
@@ -34,6 +36,22 @@ pub fn rules_of<const FIRST: u32, const SECOND: u32>(
         rules.push(rule_of(*numbers)?).ok()?;
     }
     Some(rules)
+}
+
+/// Whether the rules are in the order of their prefixes: by the bits, and of those with the same bits by the
+/// length. Rules of one prefix may follow one another.
+pub fn are_in_order<const FIRST: u32, const SECOND: u32>(rules: &[Rule<FIRST, SECOND>]) -> bool
+    ensures { IsTrue result ↔ AreInOrder rules.now }
+{
+    let mut last = 0;
+    for rule in rules {
+        let place = place_of(rule);
+        if place < last {
+            return false;
+        }
+        last = place;
+    }
+    true
 }
 
 /// The next of a fixed list of numbers without a pattern, below 65,536.

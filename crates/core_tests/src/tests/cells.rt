@@ -4,10 +4,10 @@ use super::asserting::assert_at;
 use lpm_bits::Hop;
 use lpm_cells::{Cells, Entry, PlainCells};
 use lpm_rules::Rule;
-use lpm_sweep::{are_in_order, sweep};
+use lpm_sweep::sweep;
 use std::alloc::Global;
 use std::process::Abort;
-use test_support::rules_of;
+use test_support::{are_in_order, rules_of};
 
 // Stores and loads through the trait alone.
 fn link<C: Cells>(cells: &mut C, i: usize, word: u64) -> u64

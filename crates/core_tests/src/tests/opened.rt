@@ -8,13 +8,13 @@ use fib::Fib;
 use lpm_bits::Shape;
 use lpm_limits::{Config, Refusal};
 use lpm_rules::{Put, Rule, Rules};
-use lpm_sweep::{MOST_SORTED, are_in_order, in_order};
+use lpm_sweep::{MOST_SORTED, in_order};
 use lpm_writer::OpenError;
 use std::alloc::Global;
 use std::process::Abort;
 use test_support::{
-    AMPLE, Change, DEEP, Drawing, HOPS, LIMITS, Plain, ROUTES, STEPS, Step, bad_limits,
-    drawn_rules, limits, probes, rooms, rule_of, rules_of,
+    AMPLE, Change, DEEP, Drawing, HOPS, LIMITS, Plain, ROUTES, STEPS, Step, are_in_order,
+    bad_limits, drawn_rules, limits, probes, rooms, rule_of, rules_of,
 };
 
 // The table that opens with these rules, which are in order and fit.

@@ -9,10 +9,10 @@ use super::asserting::assert_at;
 use lpm_bits::{Hop, Shape};
 use lpm_cells::Entry;
 use lpm_rules::{Put, Rule, RuleFault, Rules, count_rules, place_of};
-use lpm_sweep::{MOST_SORTED, Swept, are_in_order, in_order, sweep, sweep_into};
+use lpm_sweep::{MOST_SORTED, Swept, in_order, sweep, sweep_into};
 use std::alloc::Global;
 use std::process::Abort;
-use test_support::{Plain, drawn_rules, hop_number, probes, rule_of, rules_of};
+use test_support::{Plain, are_in_order, drawn_rules, hop_number, probes, rule_of, rules_of};
 
 // The list that these rules fill in bulk, over a table of so many at most.
 fn filled<const FIRST: u32, const SECOND: u32>(

@@ -9,14 +9,14 @@ use super::changing::{Ipv4Table, Ipv4Writer, SmallTable, SmallWriter, change, fi
 use fib::Fib;
 use lpm_limits::Config;
 use lpm_rules::Rule;
-use lpm_sweep::{MOST_SORTED, are_in_order, in_order};
+use lpm_sweep::{MOST_SORTED, in_order};
 use lpm_writer::OpenError;
 use shared_fib::{Pass, open_sorted};
 use std::alloc::Global;
 use std::process::Abort;
 use test_support::{
-    AMPLE, DEEP, HOPS, LIMITS, Plain, ROUTES, Row, STEPS, bad_limits, drawn_rules, hop_number,
-    rooms, rule_of, rules_of,
+    AMPLE, DEEP, HOPS, LIMITS, Plain, ROUTES, Row, STEPS, are_in_order, bad_limits, drawn_rules,
+    hop_number, rooms, rule_of, rules_of,
 };
 
 // Each address has the next hop that stands beside it, by this version.
