@@ -1,6 +1,6 @@
 //! Why a run isn't accepted.
 
-use interleave::Kind;
+use lpm_trace::Kind;
 use std::alloc::{AllocError, AllocFailed};
 
 /// Why a run isn't accepted.

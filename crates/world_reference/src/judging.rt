@@ -9,7 +9,8 @@ use super::order::writes_in_order;
 use super::reuse::reuse_is_lawful;
 use super::slow_writer::SlowWriter;
 use super::{InitialState, JudgeError, Versions};
-use interleave::{Actor, Deed, Kind, Seen, Step, Trace};
+use interleave::{Seen, Trace};
+use lpm_trace::{Actor, Deed, Kind, Step};
 use std::alloc::{AllocError, Global};
 use test_support::plans::Plan;
 

@@ -7,10 +7,11 @@ use super::memory::{Word, group_in};
 use super::moment::Moment;
 use super::{JudgeError, PlainRule, Versions};
 use defer_queue::Reclaimed;
-use interleave::{Change, Kind, Reply, Step};
+use interleave::Reply;
 use lpm_bits::Hop;
 use lpm_limits::{Busy, Config, Refusal};
-use lpm_rules::Put;
+use lpm_rules::{Change, Put};
+use lpm_trace::{Kind, Step};
 use std::alloc::{AllocError, AllocFailed, Global};
 use std::collections::VecDeque;
 

@@ -4,8 +4,8 @@ ghost use Rattle.std.specs.Prelude.{◌≡◌, IfOk, length};
 ghost use Rattle.lpm_bits.specs.Widths.{IsShape};
 
 use super::draw::Draw;
-use interleave::Change;
 use lpm_bits::{Hop, Prefix};
+use lpm_rules::Change;
 use std::alloc::{AllocError, Global};
 
 /// A prefix of which each word of a group may be one.

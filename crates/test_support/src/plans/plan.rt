@@ -1,7 +1,8 @@
 //! What a run is made of.
 
-use interleave::{Actor, Change, Deed};
 use lpm_limits::Config;
+use lpm_rules::Change;
+use lpm_trace::{Actor, Deed};
 
 /// What a run is made of.
 #[derive(Drop)]

@@ -3,7 +3,7 @@
 ghost use Rattle.std.specs.Prelude.{◌≡◌, IfOk, length};
 
 use super::draw::Draw;
-use interleave::Actor;
+use lpm_trace::Actor;
 use std::alloc::{AllocError, Global};
 
 /// The writer half of the time; else one of the workers, or seldom one that isn't there.

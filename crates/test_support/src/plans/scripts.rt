@@ -7,7 +7,7 @@ ghost use Rattle.interleave.specs.Scripts.{IsSound, IsSoundFrom};
 ghost use Rattle.test_support.specs.Plans.{HasDeeds};
 
 use super::draw::Draw;
-use interleave::Deed;
+use lpm_trace::Deed;
 use std::alloc::{AllocError, Global};
 
 /// A deed of a worker that is online, or isn't, and whether the worker is online after it.

@@ -2,9 +2,10 @@
 
 use super::plan::hop;
 use defer_queue::Reclaimed;
-use interleave::{Actor, Kind, Reply, Seen, Step, Trace};
+use interleave::{Reply, Seen, Trace};
 use lpm_limits::Refusal;
 use lpm_rules::Put;
+use lpm_trace::{Actor, Kind, Step};
 use std::fmt::Debug;
 use std::process::Abort;
 

@@ -6,9 +6,10 @@ use super::asserting::{
 };
 use super::plan::{Edit, ONE_GROUP, played};
 use defer_queue::Reclaimed;
-use interleave::{Actor, Deed, Kind, Trace};
+use interleave::Trace;
 use lpm_limits::{Busy, Config, Refusal};
 use lpm_rules::Put;
+use lpm_trace::{Actor, Deed, Kind};
 use std::alloc::Global;
 use std::process::Abort;
 use std::test::Fail;

@@ -3,9 +3,10 @@
 use super::asserting::{Answer, assert_at, assert_replies, assert_reply, assert_trace};
 use super::plan::{Edit, ONE_GROUP, judged, planned, played, run};
 use defer_queue::Reclaimed;
-use interleave::{Actor, Deed, Kind, Reply, RunError, Trace};
+use interleave::{Reply, RunError, Trace};
 use lpm_limits::{Busy, Config, Refusal};
 use lpm_rules::Put;
+use lpm_trace::{Actor, Deed, Kind};
 use std::alloc::{AllocError, Global};
 use std::process::Abort;
 use std::test::Fail;

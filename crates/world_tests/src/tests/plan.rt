@@ -5,9 +5,11 @@ ghost use Rattle.lpm_bits.specs.Widths.{IsShape};
 ghost use Rattle.interleave.specs.Scripts.{IsSound};
 
 use super::asserting::assert_at;
-use interleave::{Actor, Change, Deed, RunError, Trace, World, script_ok};
+use interleave::{RunError, Trace, World, script_ok};
 use lpm_bits::{Hop, Prefix, Shape};
 use lpm_limits::Config;
+use lpm_rules::Change;
+use lpm_trace::{Actor, Deed};
 use std::alloc::{AllocError, Global};
 use std::fmt::Debug;
 use std::process::Abort;

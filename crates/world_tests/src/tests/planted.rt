@@ -1,8 +1,10 @@
 // Runs in which one thing is wrong, which the slow program refuses.
 
 use super::plan::{Edit, ONE_GROUP, assert_refused, hop, judged, planned, prefix};
-use interleave::{Actor, Change, Deed, Kind, Step, Trace};
+use interleave::Trace;
 use lpm_limits::Config;
+use lpm_rules::Change;
+use lpm_trace::{Actor, Deed, Kind, Step};
 use std::alloc::Global;
 use std::process::Abort;
 use std::test::Fail;

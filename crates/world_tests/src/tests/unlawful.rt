@@ -3,8 +3,9 @@
 use super::asserting::assert_at;
 use super::plan::{Edit, ONE_GROUP, assert_refused, hop, judged, planned, planned_for, run};
 use super::planted::exchange;
-use interleave::{Actor, Deed, Kind, Seen, Step};
+use interleave::Seen;
 use lpm_limits::Config;
+use lpm_trace::{Actor, Deed, Kind, Step};
 use std::alloc::Global;
 use std::process::Abort;
 use std::test::Fail;
