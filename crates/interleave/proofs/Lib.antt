@@ -1,6 +1,7 @@
 pub mod Waited
 pub mod Performing
 pub mod Items
+pub mod WriterSteps
 pub mod Turning
 pub mod Reaching
 pub mod Ends

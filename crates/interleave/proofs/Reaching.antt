@@ -1,7 +1,7 @@
 -- The workers take their turns up to the writer's next item, or up to the schedule's end.
 use Rattle.std.proofs.Common.{ℕ, map, ◌≡◌, ◌≢◌, suc, ◌<◌, ◌≤◌, inl, inr, cond, List, [], ◌∷◌, ◌++◌, length, refl, sym, ap, subst, ◌∙◌, arith, Option, Some, None, ◌↔◌, Bool, true, false}
 use Rattle.interleave.specs.declared.world_memory.WorldMemory.TheInside.{Inside}
-use Rattle.interleave.specs.View.{WorldView, script_at, with_recorded_step, with_unrecorded_step}
+use Rattle.interleave.specs.View.{WorldView, script_at}
 use Rattle.std.proofs.lemmas.Bool.{cases_lt}
 use Rattle.lpm_trace.specs.declared.kind.Actor.TheVariants.{Writer as WriterActor}
 use Rattle.lpm_trace.specs.declared.step.WriterStep.{WriterStep}
@@ -15,6 +15,7 @@ use Rattle.lpm_trace.proofs.Grace.{older_trace}
 use Rattle.lpm_trace.proofs.Versions.{by_number}
 use Rattle.interleave.proofs.Items.{one_each, one_at_most, items_left, items_all, items_used, used_all, makes_still}
 use Rattle.interleave.proofs.Turning.{passed_by, trace_stays, turn_passes, none_beyond, FindsShown, sequence_within, recorded_does, unrecorded_does}
+use Rattle.interleave.proofs.WriterSteps.{with_recorded_step, with_unrecorded_step}
 use Rattle.std.specs.Prelude.{MatchBool}
 use Rattle.lpm_writer.specs.Plain.{MayBeNext}
 

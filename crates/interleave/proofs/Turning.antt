@@ -23,8 +23,9 @@ use Rattle.interleave.specs.Machine.{IsAt, IsOf, IsNoted, Advances, probe_of, Sh
 use Rattle.interleave.specs.Scripts.{steps_by}
 use Rattle.interleave.specs.Record.{finished_by, seen_by, all_shown, all_seen, shown_write}
 use Rattle.interleave.specs.World.{HasEnded, IsScheduled, IsWorld, IsDoneAfter, AreAt, used_items, scripts_and_schedule, IsWritersTurn, WorldDoes, Reaches, with_beyond}
-use Rattle.interleave.specs.View.{WorldView, script_at, words_by, token_by, sequence_by, with_recorded_step, with_unrecorded_step}
+use Rattle.interleave.specs.View.{WorldView, script_at}
 use Rattle.interleave.proofs.Items.{used_more, used_few, one_at_most}
+use Rattle.interleave.proofs.WriterSteps.{words_by, token_by, sequence_by, with_recorded_step, with_unrecorded_step}
 use Rattle.lpm_trace.proofs.Moments.{ProbesAgree, Agrees, clocks_agree}
 use Rattle.lpm_trace.specs.Writer.{MayStep, Finds}
 use Rattle.lpm_trace.proofs.Checks.{writer_goes_on}

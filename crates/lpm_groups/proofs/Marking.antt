@@ -5,7 +5,7 @@ use Rattle.std.proofs.lemmas.List.Sums.{sum_by-cons, sum_by-set}
 use Rattle.std.proofs.lemmas.Option.{slice_get_within, get_or_from_slice_get, slice_get-map}
 use Rattle.lpm_groups.specs.declared.GroupState.{GroupState}
 use Rattle.lpm_groups.specs.declared.GroupState.TheVariants.{Free, Linked, Limbo}
-use Rattle.lpm_groups.specs.States.{is_free, is_linked, is_limbo, linked_count, limbo_count, free_count, IsFreeAt, IsLinkedTo, IsLimboAt, linked_blocks, IsLinkedOnce, IsLinkedAt, IsLeastFree, mark_of, IsSound}
+use Rattle.lpm_groups.specs.States.{is_free, is_linked, is_limbo, linked_count, limbo_count, free_count, IsFreeAt, IsLinkedTo, IsLimboAt, IsLinkedAt, IsLeastFree, mark_of, IsSound}
 use Rattle.std.specs.List.{IsDistinct, AllByRecursion}
 use Rattle.std.proofs.lemmas.Bool.Decides.{eqb_tells}
 use Rattle.std.proofs.lemmas.List.{map-set, take_all, length-map, get_or-drop}
@@ -98,6 +98,18 @@ limbo_count-of_blocks [] n = limbo_count-replicate n
 limbo_count-of_blocks (b ∷ bs) n = omega (arith, count_by-cons is_limbo (Linked b) (map Linked bs ++ replicate n Free), limbo_count-of_blocks bs n)
 
 -- The blocks that the linked groups stand for.
+
+-- the blocks that have a group, in the order of their groups
+abbrev pub linked_blocks : List GroupState → List ℕ
+linked_blocks [] = []
+linked_blocks (Free ∷ states) = linked_blocks states
+linked_blocks (Linked block ∷ states) = block ∷ linked_blocks states
+linked_blocks (Limbo ∷ states) = linked_blocks states
+
+-- no block has two groups
+abbrev pub IsLinkedOnce : List GroupState → Type 0
+IsLinkedOnce states = (g h block : ℕ)
+    → IsLinkedTo states g block → IsLinkedTo states h block → g ≡ h
 
 -- as many blocks as linked groups
 pub length-linked_blocks : (xs : List GroupState) → length (linked_blocks xs) ≡ linked_count xs

@@ -2,7 +2,7 @@
 -- yet reclaimed (DPDK Programmer's Guide, "LPM Library", the tables of type tbl8 and their
 -- reclaiming by RCU; Fraser, UCAM-CL-TR-579, 2004, limbo lists). That the least number is taken
 -- is this project's.
-use Rattle.std.specs.Prelude.{ℕ, ◌≡◌, ◌<◌, ◌≢◌, Bool, true, false, List, [], ◌∷◌, count_by, slice_get, option_map, Some, ◌≤◌, length, map}
+use Rattle.std.specs.Prelude.{ℕ, ◌≡◌, ◌<◌, ◌≢◌, Bool, true, false, List, count_by, slice_get, option_map, Some, ◌≤◌, length, map}
 use Rattle.lpm_groups.specs.declared.GroupState.{GroupState}
 use Rattle.lpm_groups.specs.declared.GroupState.TheVariants.{Free, Linked, Limbo}
 
@@ -53,18 +53,6 @@ IsLimboAt states group = slice_get states group ≡ Some Limbo
 pub record IsLeastFree (states : List GroupState) (group : ℕ) : Type 0 where
   pub free : slice_get states group ≡ Some Free
   pub least : (k : ℕ) → k < group → slice_get states k ≢ Some Free
-
--- the blocks that have a group, in the order of their groups
-abbrev pub linked_blocks : List GroupState → List ℕ
-linked_blocks [] = []
-linked_blocks (Free ∷ states) = linked_blocks states
-linked_blocks (Linked block ∷ states) = block ∷ linked_blocks states
-linked_blocks (Limbo ∷ states) = linked_blocks states
-
--- no block has two groups
-abbrev pub IsLinkedOnce : List GroupState → Type 0
-IsLinkedOnce states = (g h block : ℕ)
-    → IsLinkedTo states g block → IsLinkedTo states h block → g ≡ h
 
 -- What `Groups` keeps beside the states (this project's).
 

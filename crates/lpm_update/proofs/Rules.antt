@@ -11,9 +11,9 @@ use Rattle.lpm_cells.specs.declared.entry.Entry.{Entry}
 use Rattle.lpm_cells.specs.declared.entry.Entry.TheVariants.{Miss, Hop, Group}
 use Rattle.lpm_update.specs.declared.rewrite.Kind.TheVariants.{Delete, Add}
 use Rattle.lpm_update.specs.Rewrite.{rewritten_entry}
-use Rattle.lpm_update.specs.Best.{IsBest, IsCoverEntry}
+use Rattle.lpm_update.specs.Best.{IsBest}
 use Rattle.lpm_rules.specs.Deep.{IsDeepBlock}
-use Rattle.lpm_rules.specs.Longest.{IsLongestHop}
+use Rattle.lpm_rules.specs.Longest.{IsCoverRule, IsLongestHop, IsUncovered}
 use Rattle.lpm_cells.specs.Words.{hop_in}
 use Rattle.lpm_update.proofs.Places.{block_low, block_high, block_of}
 
@@ -55,6 +55,13 @@ eq_not : (d n : ℕ) → d ≡ n → nat_eq d n ≡ false → ⊥
 eq_not d n e z =
     let y : true ≡ false = sym (eq-eqb d n e) ∙ z in
     cc
+
+-- e is the entry of the longest rule of R that is shorter than p and covers it, a miss where there
+-- is none
+abbrev pub IsCoverEntry : ℕ → RuleMap → Network → Entry → Type 0
+IsCoverEntry width R p Miss = IsUncovered width R p
+IsCoverEntry width R p (Hop h d) = (c : Network) × IsCoverRule width R p c h × (c.len ≡ d)
+IsCoverEntry width R p (Group g) = ⊥
 
 -- the entry of p itself gives way to that of its cover
 to_cover : (width : ℕ) (R : RuleMap) (p : Network) (a v : ℕ) (e : Entry) → AllNetworks width R → IsNetwork width p → Covers width p a → IsBest width R a (Hop v p.len) → IsCoverEntry width R p e

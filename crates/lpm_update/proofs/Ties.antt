@@ -6,7 +6,7 @@ use Rattle.std.proofs.Math.Nat.{mul-le-mul_right}
 use Rattle.lpm_cells.specs.Words.{group_in, entry_in, word_of, Words, entry_at, last_entry}
 use Rattle.lpm_groups.specs.declared.GroupState.{GroupState}
 use Rattle.lpm_groups.specs.declared.GroupState.TheVariants.{Free, Linked}
-use Rattle.lpm_groups.specs.States.{IsLinkedTo, IsLinkedOnce, linked_blocks}
+use Rattle.lpm_groups.specs.States.{IsLinkedTo}
 use Rattle.lpm_update.specs.Linked.{IsTable, group_at, IsLinkTo}
 use Rattle.lpm_update.specs.Represents.{IsFreshGroup, HasDeepGroups}
 use Rattle.lpm_update.specs.Tied.{IsTied, HasGroupRoom}
@@ -28,7 +28,7 @@ use Rattle.std.proofs.lemmas.Bool.Decides.{same_from_decides}
 use Rattle.std.proofs.lemmas.Map.Keys.{IsDistinct-head, IsDistinct-tail}
 use Rattle.std.proofs.lemmas.Map.Lookups.{exact_unsigned}
 use Rattle.std.proofs.lemmas.Map.Views.{Contains-from_any, list_any-from_Contains, tells_apart}
-use Rattle.lpm_groups.proofs.Marking.{length-linked_blocks, Contains-linked_blocks, group_of_block, IsDistinct-linked_blocks}
+use Rattle.lpm_groups.proofs.Marking.{length-linked_blocks, Contains-linked_blocks, group_of_block, IsDistinct-linked_blocks, IsLinkedOnce, linked_blocks}
 use Rattle.lpm_rules.specs.Deep.{deep_blocks}
 use Rattle.lpm_rules.proofs.Deep.{has_deep_blocks, deep_below}
 use Rattle.std.specs.FinSet as set

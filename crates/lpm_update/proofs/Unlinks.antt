@@ -8,7 +8,7 @@ use Rattle.lpm_cells.specs.declared.entry.Entry.TheVariants.{Group, Miss, Hop}
 use Rattle.lpm_cells.specs.Words.{entry_in, word_of, IsLast, IsLastWord, group_in, entry_at, Words, with_first}
 use Rattle.lpm_update.specs.declared.rewrite.Rewrite.{Rewrite}
 use Rattle.lpm_update.specs.Rewrite.{rewritten_entry, Stands, Skips}
-use Rattle.lpm_update.specs.Kinds.{final_entry, IsFurther, IsUnlinking, IsUnlinkStore, IsOneEntry}
+use Rattle.lpm_update.specs.Kinds.{final_entry, IsFurther, IsUnlinking, IsUnlinkStore}
 use Rattle.lpm_update.proofs.Places.{in_group, first_same, first_other, first_room, last_no_group, table_first, stored_first}
 use Rattle.lpm_update.proofs.Links.{range_true, range_low, range_high, final_same, stands_along, same_group}
 use Rattle.lpm_update.specs.declared.Did.{Did}
@@ -56,6 +56,12 @@ unlink_unseen s W b g w a h e l all = elim (cases_eq (a / 2 ^ s) b) [
 
 place_in : (f s : ℕ) (W : Words) (b g r : ℕ) → IsTable f s W → b < 2 ^ f → IsLinkTo W.firsts b g → r < 2 ^ s → g * 2 ^ s + r < length W.seconds
 place_in f s W b g r t h e l = let room : g * 2 ^ s + 2 ^ s ≤ length W.seconds = first_room f s W b g t h e in omega (arith, room, l)
+
+-- the words of the group are all of one entry
+abbrev pub IsOneEntry : ℕ → Words → ℕ → Type 0
+IsOneEntry second t g =
+    (x : Entry)
+    × ((r : ℕ) → r < 2 ^ second → entry_in (slice_index t.seconds (g * 2 ^ second + r)) ≡ x)
 
 -- words of one entry are one word
 one_word : (f s : ℕ) (W : Words) (b g w : ℕ) (x : Entry) → IsTable f s W → b < 2 ^ f → IsLinkTo W.firsts b g

@@ -4,7 +4,6 @@ use Rattle.std.specs.Prelude.{ℕ, ◌≡◌, ◌≤◌, ◌<◌, ◌^◌, Some,
 use Rattle.std.specs.FinMap.{get}
 use Rattle.lpm_bits.specs.Network.{Network, Covers}
 use Rattle.lpm_rules.specs.RuleMap.{RuleMap}
-use Rattle.lpm_rules.specs.Longest.{IsUncovered, IsCoverRule}
 use Rattle.lpm_cells.specs.declared.entry.Entry.{Entry}
 use Rattle.lpm_cells.specs.declared.entry.Entry.TheVariants.{Miss, Hop, Group}
 
@@ -19,10 +18,3 @@ IsBest width R a (Group g) = ⊥
 -- each address has the entry of its longest rule
 abbrev pub AllBest : ℕ → RuleMap → (ℕ → Entry) → Type 0
 AllBest width R E = (a : ℕ) → a < 2 ^ width → IsBest width R a (E a)
-
--- e is the entry of the longest rule of R that is shorter than p and covers it, a miss where there
--- is none
-abbrev pub IsCoverEntry : ℕ → RuleMap → Network → Entry → Type 0
-IsCoverEntry width R p Miss = IsUncovered width R p
-IsCoverEntry width R p (Hop h d) = (c : Network) × IsCoverRule width R p c h × (c.len ≡ d)
-IsCoverEntry width R p (Group g) = ⊥

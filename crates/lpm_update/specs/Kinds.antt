@@ -181,9 +181,3 @@ pub record IsUnlinking (first second : ℕ) (u : RewriteRange) (block : ℕ) (t 
 pub record IsUnlinkStore (second : ℕ) (t : Words) (block g w : ℕ) : Type 0 where
   pub group : IsLinkTo t.firsts block g
   pub word : (r : ℕ) → r < 2 ^ second → slice_index t.seconds (g * 2 ^ second + r) ≡ w
-
--- the words of the group are all of one entry
-abbrev pub IsOneEntry : ℕ → Words → ℕ → Type 0
-IsOneEntry second t g =
-    (x : Entry)
-    × ((r : ℕ) → r < 2 ^ second → entry_in (slice_index t.seconds (g * 2 ^ second + r)) ≡ x)

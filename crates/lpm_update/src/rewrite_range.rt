@@ -26,7 +26,6 @@ impl RewriteRange {
     ghost use Rattle.lpm_update.specs.declared.Did.TheVariants.{Done};
     ghost use Rattle.lpm_update.specs.declared.rewrite.Kind.TheVariants.{Add, Delete};
     ghost use Rattle.lpm_update.specs.declared.update.Plan.TheVariants.{Range};
-    ghost use Rattle.lpm_update.specs.Best.{IsCoverEntry};
     ghost use Rattle.lpm_update.specs.Rewrite.{IsOnWords, Skips};
     ghost use Rattle.lpm_update.specs.Linked.{IsTable};
     ghost use Rattle.lpm_update.specs.Kinds.{IsRangeOf, Visits};

@@ -1,4 +1,5 @@
 pub mod Checks
+pub mod Making
 pub mod Reclaims
 pub mod NextStores
 pub mod Storing

@@ -26,7 +26,7 @@ use Rattle.lpm_writer.specs.declared.pool.GroupPool.{GroupPool}
 use Rattle.lpm_writer.specs.Traced.{WithSteps, Loads, Asks, Checks, Retires, by_writer, Goes, UnlinksNone, Stores, StoresOverLink, StoresAndCloses, state_of_traced}
 use Rattle.lpm_writer.specs.Taking.{Takes, Finds}
 use Rattle.lpm_writer.specs.Steps.{StoreSameWord, since_opened, StoresOnce, IsStore, AreStopped, by_steps_from}
-use Rattle.lpm_writer.specs.Making.{HasPassedStore, HasPassedStores, stored_by}
+use Rattle.lpm_writer.proofs.Making.{HasPassedStore, HasPassedStores, stored_by}
 use Rattle.lpm_trace.specs.Writer.{token_after}
 use Rattle.lpm_trace.proofs.Versions.{token_is, passed_is}
 use Rattle.lpm_limits.specs.declared.refusal.Refusal.{Refusal}

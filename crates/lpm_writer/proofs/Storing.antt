@@ -38,11 +38,12 @@ use Rattle.lpm_writer.specs.declared.pool.GroupPool.{GroupPool}
 use Rattle.lpm_writer.specs.Waiting.{AreWaiting}
 use Rattle.lpm_writer.specs.Matching.{AreAfter, AreRising, AreRetired, AreBelow, IsAmong, GroupsMatchState, HasUnlinked, HasNothingDue, SameTables, GroupsMatchSteps}
 use Rattle.lpm_writer.specs.Steps.{since_opened}
-use Rattle.lpm_writer.specs.Making.{group_to_fill, unless_linked, IsTakenBy, HasPassedStore, HasPassedStores, IsMaking, answer_after}
+use Rattle.lpm_writer.specs.Making.{group_to_fill, unless_linked, IsTakenBy}
 use Rattle.lpm_writer.proofs.LimboItems.{absent_other, free_limbo, free_linked, linked_limbo}
 use Rattle.lpm_writer.proofs.Reclaims.{kept_quiet, linked_not_retired}
 use Rattle.lpm_writer.proofs.NextStores.{none_some, filling_same, second_kind, IsFirstKind, turned_on}
 use Rattle.lpm_writer.proofs.StepsAlone.{IsStoreOf, StoresNothing, passed_on, new_word}
+use Rattle.lpm_writer.proofs.Making.{HasPassedStore, HasPassedStores, IsMaking, answer_after}
 
 -- ---- the group that is filled
 

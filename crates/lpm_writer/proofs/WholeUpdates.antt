@@ -16,9 +16,10 @@ use Rattle.lpm_trace.proofs.Versions.{with_at-same, with_at-other}
 use Rattle.lpm_writer.specs.declared.pool.GroupPool.{GroupPool}
 use Rattle.lpm_writer.specs.Traced.{by_writer}
 use Rattle.lpm_writer.specs.Matching.{GroupsMatchSteps}
-use Rattle.lpm_writer.specs.Making.{HasPassedStore, HasWidths, IsTakenBy, group_to_fill, answer_after, MayMake, HasMade}
+use Rattle.lpm_writer.specs.Making.{HasWidths, IsTakenBy, group_to_fill}
 use Rattle.lpm_writer.specs.Resting.{IsBetween, Changes}
 use Rattle.lpm_writer.proofs.Reclaims.{kept_quiet}
+use Rattle.lpm_writer.proofs.Making.{HasPassedStore, answer_after, MayMake, HasMade}
 
 -- the update u by this change of the rules may be made
 pub record MayChange (first second : ℕ) (c : InitialState) (steps : List WriterStep) (u : Plan)

@@ -23,7 +23,7 @@ use Rattle.shared_words.specs.declared.view.Role.TheVariants.{Writer, Worker, No
 use Rattle.shared_words.specs.declared.view.View.{View}
 use Rattle.shared_words.specs.Layout.{InitialData, initial_state_of, IsLaidOut, half, first_at, second_at, sequence_at, token_at, counter_at, initial_words}
 use Rattle.shared_words.specs.Rule.{IsLater, Seating, Sits, IsViewOf, Holds, writer_view, worker_view, with_one_more}
-use Rattle.shared_words.specs.Seats.{AreLawful, WriterGains, IsFoundAt, KeepsFirst, KeepsSecond, WriterLooks, with_step, state_of_view, MayFollow}
+use Rattle.shared_words.specs.Seats.{AreLawful, WriterGains, IsFoundAt, WriterLooks, with_step, state_of_view, MayFollow}
 use Rattle.shared_words.proofs.Laying.{firsts_length, seconds_length, lays_first, lays_second, lays_sequence, lays_token, lays_none, lays_opening}
 
 abbrev St : Type 0
@@ -32,6 +32,16 @@ St = State (Unit {0}) View
 -- a seat's view, and the slots that it holds, which are none
 abbrev Mine : Type 0
 Mine = Me (Unit {0}) View
+
+-- a word in which first word i stands has its neighbour there as the writer's steps left it
+abbrev pub KeepsFirst : InitialData → List WriterStep → ℕ → ℕ → Type 0
+KeepsFirst o seen i word = (k : ℕ) → k < length o.firsts → first_at k ≡ first_at i → k ≢ i
+    → half k word ≡ slice_index (state_after (initial_state_of o) seen).words.firsts k
+
+-- a word in which second word j stands has its neighbour there as the writer's steps left it
+abbrev pub KeepsSecond : InitialData → List WriterStep → ℕ → ℕ → Type 0
+KeepsSecond o seen j word = (k : ℕ) → k < length o.seconds → second_at o k ≡ second_at o j → k ≢ j
+    → half k word ≡ slice_index (state_after (initial_state_of o) seen).words.seconds k
 
 abbrev with_words : St → List ℕ → List View → St
 with_words s words views = record { words = words; homes = s.homes; views = views }

@@ -1,6 +1,6 @@
 -- Meaning: what one step of the table gains the view of its seat, and no other (DPDK Programmer's
 -- Guide, "RCU Library": a worker stores the token in its counter; the writer loads each counter).
-use Rattle.std.specs.Prelude.{ℕ, ◌≡◌, ◌≢◌, ◌+◌, ◌*◌, ◌/◌, ◌%◌, ◌^◌, ◌<◌, ◌≤◌, All, List, [], ◌∷◌, length, slice_index, refl}
+use Rattle.std.specs.Prelude.{ℕ, ◌≡◌, ◌+◌, ◌*◌, ◌/◌, ◌%◌, ◌^◌, ◌<◌, ◌≤◌, All, List, [], ◌∷◌, length, slice_index, refl}
 use Rattle.std.specs.List.{AllPairs}
 use Rattle.std.specs.Coded.{Coded, code_by, coded×, coded_ℕ}
 use Rattle.atomic_table.specs.Seated.{TableId, table_id_coded}
@@ -103,16 +103,6 @@ pub record IsFoundAt (o : InitialData) (seen : List WriterStep) (at word : ℕ) 
 
 abbrev pub WriterLooks : Step (Unit {0}) → Me (Unit {0}) View → ℕ → Me (Unit {0}) View → Type 0
 WriterLooks s me x me' = (me' ≡ me) × IsFoundAt me.0.initial me.0.seen s.word x
-
--- a word in which first word i stands has its neighbour there as the writer's steps left it
-abbrev pub KeepsFirst : InitialData → List WriterStep → ℕ → ℕ → Type 0
-KeepsFirst o seen i word = (k : ℕ) → k < length o.firsts → first_at k ≡ first_at i → k ≢ i
-    → half k word ≡ slice_index (state_after (initial_state_of o) seen).words.firsts k
-
--- a word in which second word j stands has its neighbour there as the writer's steps left it
-abbrev pub KeepsSecond : InitialData → List WriterStep → ℕ → ℕ → Type 0
-KeepsSecond o seen j word = (k : ℕ) → k < length o.seconds → second_at o k ≡ second_at o j → k ≢ j
-    → half k word ≡ slice_index (state_after (initial_state_of o) seen).words.seconds k
 
 -- ---- a worker
 

@@ -6,7 +6,7 @@ use Rattle.std.proofs.lemmas.List.{get_or-append-add, get_or-map, get_or_append_
 use Rattle.std.proofs.lemmas.Option.{get_or_from_slice_get, slice_get_within}
 use Rattle.shared_fib.specs.Passes.{PassState}
 use Rattle.bulk.proofs.Meetings.{others_stay}
-use Rattle.storm.specs.Looking.{AreInSeats, AreOfWorkers, EachAt, IsUnused, passes_of}
+use Rattle.storm.specs.Looking.{AreInSeats, AreOfWorkers, EachAt, IsUnused}
 use Rattle.storm.specs.declared.looking.Worker.{Worker}
 
 -- the elements before place i have come to P, and the others are Q still
@@ -57,6 +57,10 @@ each_set P xs i y low each here k d below = elim (cases_eq k i) [
 
 no_some : {X : Type 0} (x : X) → None ≡ Some x → ⊥
 no_some x e = cc
+
+-- the pass of each worker
+abbrev pub passes_of : List Worker → List PassState
+passes_of workers = map (λ w. w.pass) workers
 
 -- what the passes of workers in their seats know
 pub of_workers : (workers : List Worker) → AreInSeats workers → AreOfWorkers (passes_of workers)

@@ -104,10 +104,6 @@ pub record HasAnswered (id : Identity) (addrs : List ℕ) (rounds : ℕ) (w_step
 abbrev pub AreOfWorkers : List PassState → Type 0
 AreOfWorkers passes = (k : ℕ) (p : PassState) → slice_get passes k ≡ Some p → p.worker ≡ k
 
--- the pass of each worker
-abbrev pub passes_of : List Worker → List PassState
-passes_of workers = map (λ w. w.pass) workers
-
 -- the answers of all these passes
 abbrev pub answers_of_passes : List PassState → List (ℕ × Answer)
 answers_of_passes passes = flat_map answers_by passes

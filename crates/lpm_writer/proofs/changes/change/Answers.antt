@@ -6,7 +6,7 @@ use Rattle.lpm_update.specs.Update.{group_held}
 use Rattle.lpm_trace.specs.declared.step.WriterStep.{WriterStep}
 use Rattle.lpm_trace.specs.declared.step.WriterStep.TheVariants.{BeginUpdate, EndUpdate}
 use Rattle.lpm_trace.specs.States.{InitialState}
-use Rattle.lpm_writer.specs.Making.{MayMake, HasMade}
+use Rattle.lpm_writer.proofs.Making.{MayMake, HasMade}
 use Rattle.lpm_writer.specs.Resting.{IsDue, IsResting}
 use Rattle.lpm_writer.proofs.Rests.{due_step, due_few, due_opened, due_closed}
 use Rattle.lpm_writer.proofs.MakingStores.{at_first, allows_along, run_stopped, run_retired, run_over}

@@ -2,8 +2,9 @@ use Rattle.std.proofs.Common.{[], ◌∷◌, ◌++◌, ap, ◌∙◌, add-one}
 use Rattle.lpm_trace.specs.declared.kind.Kind.TheVariants as kind
 use Rattle.lpm_trace.specs.declared.step.WriterStep.TheVariants.{BumpToken}
 use Rattle.interleave.specs.Record.{step_of_writer}
-use Rattle.interleave.specs.View.{WorldView, with_recorded_step, with_unrecorded_step}
+use Rattle.interleave.specs.View.{WorldView}
 use Rattle.interleave.proofs.Reaching.{view_in, step_does_in}
+use Rattle.interleave.proofs.WriterSteps.{with_recorded_step, with_unrecorded_step}
 use Rattle.interleave.proofs.memory.WorldMemoryMemory.start.Goals as goal
 
 pub returns-clause-does : goal.returns-clause-does

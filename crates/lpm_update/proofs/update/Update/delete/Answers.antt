@@ -8,7 +8,7 @@ use Rattle.lpm_rules.specs.Longest.{IsUncovered, IsCoverRule}
 use Rattle.lpm_rules.proofs.Deep.{deep_remains}
 use Rattle.lpm_update.specs.declared.rewrite.Kind.TheVariants.{Delete}
 use Rattle.lpm_update.specs.declared.rewrite_range.RewriteRange.{RewriteRange}
-use Rattle.lpm_update.specs.Best.{IsCoverEntry}
+use Rattle.lpm_update.proofs.Rules.{IsCoverEntry}
 use Rattle.lpm_update.specs.Kinds.{IsRangeOf}
 use Rattle.lpm_update.specs.Represents.{LastFits}
 use Rattle.lpm_update.proofs.Begins.{begun_range, deletes_range, begun_unlink, deletes_unlink}
