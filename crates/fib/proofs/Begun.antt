@@ -17,7 +17,7 @@ use Rattle.lpm_writer.specs.declared.plain_memory.PlainMemory.{PlainMemory}
 use Rattle.lpm_writer.specs.declared.control.ControlState.{ControlState}
 use Rattle.lpm_writer.specs.declared.pool.GroupPool.{GroupPool}
 use Rattle.lpm_writer.specs.Resting.{IsResting}
-use Rattle.lpm_writer.proofs.Opened.{status_at_first, unused_retired, beginning, begins_resting}
+use Rattle.lpm_writer.proofs.Initial.{status_at_first, unused_retired, beginning, begins_resting}
 use Rattle.lpm_writer.proofs.Reclaims.{linked_not_retired}
 use Rattle.lpm_writer.proofs.Unchanged.{unchanging, unchanged, unchanged_stays, rests_after_unchanged}
 use Rattle.fib.specs.Fib.{IsSound}
@@ -49,8 +49,8 @@ module _ (f s : ℕ) (config : Config) (control : ControlState f s) (memory : Pl
   abbrev xs : List GroupState
   xs = control.pool.groups
 
-  abbrev setup : Represents f s control.rules.rules memory.cells → IsTied f xs (group_at memory.cells.firsts) → InitialState
-  setup represents tied = beginning f s memory.cells control.rules.rules xs config memory.domain.token (λ g. status_in (slice_get xs g)) represents tied
+  abbrev initial : Represents f s control.rules.rules memory.cells → IsTied f xs (group_at memory.cells.firsts) → InitialState
+  initial represents tied = beginning f s memory.cells control.rules.rules xs config memory.domain.token (λ g. status_in (slice_get xs g)) represents tied
       (λ g state here. known_in (slice_get xs g) state here) (λ g x e. never_in (slice_get xs g) x e)
 
   -- a control state of these rules and groups and a memory of these words, to which as many updates led as the
@@ -62,7 +62,7 @@ module _ (f s : ℕ) (config : Config) (control : ControlState f s) (memory : Pl
       → Represents f s control.rules.rules memory.cells → IsTied f xs (group_at memory.cells.firsts)
       → IsSound f s control memory
   sound_begun shape limits same max few pool states room none counters represents tied =
-      let c = setup represents tied in
+      let c = initial represents tied in
       let b : GroupPool = record { groups = xs; queue = record { items = []; capacity = length xs }; passed = 0 } in
       let begins : IsResting f s c [] config control.rules b 0 =
       begins_resting f s memory.cells control.rules.rules xs config memory.domain.token (λ g. status_in (slice_get xs g)) represents tied

@@ -34,7 +34,7 @@ use Rattle.lpm_trace.proofs.Traces.{history_at, shows_at}
 use Rattle.lpm_trace.proofs.Moments.{count, writes_oldest}
 use Rattle.lpm_trace.proofs.Promises.{lookups_are_legal, versions_never_fall, reuse_is_lawful}
 use Rattle.qsbr.specs.Intervals.{Interval, IsReaderInterval, Holds}
-use Rattle.lpm_writer.proofs.Opened.{settled}
+use Rattle.lpm_writer.proofs.Initial.{settled}
 use Rattle.interleave.specs.Laws.{TracesAreLawful}
 use Rattle.lpm_update.proofs.Promises.{blank}
 

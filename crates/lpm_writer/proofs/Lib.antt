@@ -11,5 +11,5 @@ pub mod Awaiting
 pub mod Additions
 pub mod LimboItems
 pub mod StepsAlone
-pub mod Opened
+pub mod Initial
 pub mod Unchanged

@@ -17,7 +17,7 @@ use Rattle.lpm_update.specs.Tied.{IsTied, HasGroupRoom}
 use Rattle.lpm_trace.specs.States.{Status, Retired, IsSettled}
 use Rattle.lpm_writer.specs.Resting.{IsResting}
 use Rattle.lpm_writer.proofs.Reclaims.{linked_not_retired}
-use Rattle.lpm_writer.proofs.Opened.{status_at_first, unused_retired, begins_settled, begins_resting}
+use Rattle.lpm_writer.proofs.Initial.{status_at_first, unused_retired, begins_settled, begins_resting}
 use Rattle.shared_words.specs.Layout.{InitialData, status_of, initial_state_of}
 use Rattle.shared_fib.specs.Initial.{block_of, initial_data_by}
 

@@ -30,7 +30,7 @@ use Rattle.lpm_writer.specs.Resting.{IsResting, state_of}
 use Rattle.lpm_writer.proofs.LimboItems.{waiting_set, is_freed}
 use Rattle.shared_words.specs.Layout.{InitialData, initial_state_of}
 use Rattle.shared_fib.specs.Freeing.{HasGroup, IsGivenUp, IsOccupied, TakesLeast}
-use Rattle.lpm_writer.proofs.Opened.{no_group}
+use Rattle.lpm_writer.proofs.Initial.{no_group}
 use Rattle.lpm_writer.proofs.Reclaims.{linked_not_retired}
 use Rattle.lpm_writer.proofs.Storing.{retired_token}
 use Rattle.shared_fib.proofs.Live.{never_retired}

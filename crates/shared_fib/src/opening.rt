@@ -29,18 +29,18 @@ use std::alloc::{AllocError, Global};
 /// The words of a table that goes on from this one, and the seat of its writer.
 fn open_words<const FIRST: u32, const SECOND: u32>(
     alloc: Global,
-    loaded: &InitialTable<FIRST, SECOND>,
+    initial: &InitialTable<FIRST, SECOND>,
 ) -> Result<(Words<FIRST, SECOND>, WriterSeat), AllocError>
     requires shape { IsShape FIRST SECOND }
-    requires packed { ArePacked (initial_data_of FIRST SECOND loaded.now)
-        loaded.now.words.items loaded.now.layout }
-    requires settled { IsSettled (initial_state_of (initial_data_of FIRST SECOND loaded.now)) }
-    ensures initial { IfOk result (λ r. r.0.initial ≡ initial_data_of FIRST SECOND loaded.now) }
+    requires packed { ArePacked (initial_data_of FIRST SECOND initial.now)
+        initial.now.words.items initial.now.layout }
+    requires settled { IsSettled (initial_state_of (initial_data_of FIRST SECOND initial.now)) }
+    ensures initial { IfOk result (λ r. r.0.initial ≡ initial_data_of FIRST SECOND initial.now) }
     ensures own { IfOk result (λ r. IsOf r.0 r.1.table r.1.view) }
     ensures view { IfOk result
-        (λ r. r.1.view ≡ writer_view (initial_data_of FIRST SECOND loaded.now)) }
+        (λ r. r.1.view ≡ writer_view (initial_data_of FIRST SECOND initial.now)) }
 {
-    shared_words::open(alloc, loaded.words.as_slice(), loaded.layout, loaded)
+    shared_words::open(alloc, initial.words.as_slice(), initial.layout, initial)
 }
 
 /// The limits, the queue of the groups that wait, and what a running table is opened with. The words of one
@@ -72,13 +72,13 @@ fn load<const FIRST: u32, const SECOND: u32>(
         passed: _,
     } = pool;
     let (words, layout) = pack_all(alloc, cells, domain.token(), config.workers)?;
-    let loaded = InitialTable {
+    let initial = InitialTable {
         words,
         layout,
         rules,
         groups,
     };
-    Ok((config, queue, loaded))
+    Ok((config, queue, initial))
 }
 
 /// What the writer of a running table keeps at first: the rules that were loaded are version 0, and no token
@@ -86,16 +86,16 @@ fn load<const FIRST: u32, const SECOND: u32>(
 fn first_control<const FIRST: u32, const SECOND: u32>(
     config: Config,
     queue: DeferQueue,
-    loaded: InitialTable<FIRST, SECOND>,
+    initial: InitialTable<FIRST, SECOND>,
 ) -> ControlState<FIRST, SECOND>
     ensures { result ≡ record {
       config = config;
-      rules = loaded.entry.rules;
-      pool = record { groups = loaded.entry.groups; queue = queue; passed = 0 };
+      rules = initial.entry.rules;
+      pool = record { groups = initial.entry.groups; queue = queue; passed = 0 };
       versions = 0;
     } }
 {
-    let InitialTable { rules, groups, .. } = loaded;
+    let InitialTable { rules, groups, .. } = initial;
     let pool = GroupPool {
         groups,
         queue,
@@ -115,19 +115,19 @@ pub(crate) fn go_on<const FIRST: u32, const SECOND: u32>(
     alloc: Global,
     config: Config,
     queue: DeferQueue,
-    loaded: InitialTable<FIRST, SECOND>,
+    initial: InitialTable<FIRST, SECOND>,
 ) -> Result<(SharedTable<FIRST, SECOND>, Writer<FIRST, SECOND>, Bench), AllocError>
-    requires { IsLoaded FIRST SECOND config queue loaded }
-    ensures initial { IfOk result (λ r. r.0.initial ≡ initial_data_of FIRST SECOND loaded.entry) }
-    ensures opened { IfOk result (λ r. r.1 ≡ initial_writer r.0 config loaded.entry.rules.rules) }
+    requires { IsLoaded FIRST SECOND config queue initial }
+    ensures initial { IfOk result (λ r. r.0.initial ≡ initial_data_of FIRST SECOND initial.entry) }
+    ensures opened { IfOk result (λ r. r.1 ≡ initial_writer r.0 config initial.entry.rules.rules) }
     ensures token { IfOk result (λ r. r.0.initial.token
-        ≡ (initial_data_of FIRST SECOND loaded.entry).token) }
-    ensures workers { IfOk result (λ r. r.0.initial.workers ≡ loaded.entry.layout.workers) }
+        ≡ (initial_data_of FIRST SECOND initial.entry).token) }
+    ensures workers { IfOk result (λ r. r.0.initial.workers ≡ initial.entry.layout.workers) }
     ensures bench { IfOk result (λ r. IsFullBench r.0 r.2) }
 {
-    let (words, mut seat) = open_words(alloc, &loaded)?;
+    let (words, mut seat) = open_words(alloc, &initial)?;
     let bench = Bench::full(alloc, &words, &mut seat)?;
-    let control = first_control(config, queue, loaded);
+    let control = first_control(config, queue, initial);
     Ok((SharedTable::new(words), Writer::new(control, seat), bench))
 }
 
@@ -148,8 +148,8 @@ fn begin<const FIRST: u32, const SECOND: u32>(
     ensures workers { IfOk result (λ r. r.0.initial.workers ≡ control.entry.config.workers) }
     ensures bench { IfOk result (λ r. IsFullBench r.0 r.2) }
 {
-    let (config, queue, loaded) = load(alloc, control, memory)?;
-    go_on(alloc, config, queue, loaded)
+    let (config, queue, initial) = load(alloc, control, memory)?;
+    go_on(alloc, config, queue, initial)
 }
 
 /// A running table without rules, its writer, and a pass for each worker, all offline. It refuses limits

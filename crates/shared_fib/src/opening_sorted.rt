@@ -110,13 +110,13 @@ fn load_swept<const FIRST: u32, const SECOND: u32>(
         passed: _,
     } = pool;
     let layout = Layout::new(1 << FIRST, config.groups << SECOND, config.workers);
-    let loaded = InitialTable {
+    let initial = InitialTable {
         words,
         layout,
         rules,
         groups,
     };
-    Ok((queue, loaded))
+    Ok((queue, initial))
 }
 
 /// The same, where the limits suffice for the rules and for their groups, and `None` exactly where they don't. The
@@ -148,8 +148,8 @@ fn load_sorted<const FIRST: u32, const SECOND: u32>(
     let Some((words, blocks)) = sweep_words(alloc, config, &rules)? else {
         return Ok(None);
     };
-    let loaded = load_swept(alloc, config, &rules, words, &blocks)?;
-    Ok(Some(loaded))
+    let initial = load_swept(alloc, config, &rules, words, &blocks)?;
+    Ok(Some(initial))
 }
 
 /// A running table with the rules of a list, which is in the order of its prefixes (see `in_order` of
@@ -187,8 +187,8 @@ pub fn open_sorted<const FIRST: u32, const SECOND: u32>(
         (λ error. (error ≡ OpenError.BadConfig) ↔ (¬ IsConfig config)) }
 {
     config.check()?;
-    let Some((queue, loaded)) = load_sorted(alloc, config, rules)? else {
+    let Some((queue, initial)) = load_sorted(alloc, config, rules)? else {
         return Ok(None);
     };
-    Ok(Some(go_on(alloc, config, queue, loaded)?))
+    Ok(Some(go_on(alloc, config, queue, initial)?))
 }

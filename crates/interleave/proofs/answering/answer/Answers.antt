@@ -25,7 +25,7 @@ came : {Did Rests Does Is : List WriterStep → Type 0} → ((later : List Write
 came x alone = (x.0, x.1, x.2, alone x.0 x.3)
 
 pub returns-clause-replies : goal.returns-clause-replies
-returns-clause-replies g c = λ setup steps did rests.
+returns-clause-replies g c = λ initial steps did rests.
     let f = g.row.FIRST in
     let s = g.row.SECOND in
     let old = c.args.control.now in
@@ -34,33 +34,33 @@ returns-clause-replies g c = λ setup steps did rests.
     let before : State (WithSteps WorldView) = state_of {X = WithSteps WorldView} old.rules.rules (c.args.memory.now, steps) old.pool old.versions in
     let after : WorldView → ControlState f s → List WriterStep → State (WithSteps WorldView) = λ m l later.
     state_of {X = WithSteps WorldView} l.rules.rules (m, later) l.pool l.versions in
-    let Came : Change f s → WorldView → ControlState f s → Reply → Type 0 = λ change m l r. (later : List WriterStep) × WorldDid f s m setup later
-    × IsResting f s setup later l.config l.rules l.pool l.versions
-    × Answers setup f s config (state_by_steps old.rules steps old.pool old.versions) change r (state_by_steps l.rules later l.pool l.versions) in
+    let Came : Change f s → WorldView → ControlState f s → Reply → Type 0 = λ change m l r. (later : List WriterStep) × WorldDid f s m initial later
+    × IsResting f s initial later l.config l.rules l.pool l.versions
+    × Answers initial f s config (state_by_steps old.rules steps old.pool old.versions) change r (state_by_steps l.rules later l.pool l.versions) in
     elim c.match-change.branch [
       | in-Add+in-Ok w ↦ carried Came w.in-Add.is w.memory-is w.control-is w.reply-is
-          (came (w.in-Ok.ensures.adds setup steps did rests) (λ later does. (adds_alone WorldView (does_in f s) setup ScriptsAndSchedule scripts_and_schedule (stays f s) kind f s config before
+          (came (w.in-Ok.ensures.adds initial steps did rests) (λ later does. (adds_alone WorldView (does_in f s) initial ScriptsAndSchedule scripts_and_schedule (stays f s) kind f s config before
           (after w.add_rule.new.memory w.add_rule.new.control later) refl w.in-Add.prefix w.in-Add.hop (Ok w.in-Ok.put) does).0))
       | in-Add+in-Err+in_default w ↦ carried Came w.in-Add.is w.memory-is w.control-is w.reply-is
-          (came (w.in-Err.ensures.adds setup steps did rests) (λ later does. (
+          (came (w.in-Err.ensures.adds initial steps did rests) (λ later does. (
             w.in_default.not-Memory,
-            (adds_alone WorldView (does_in f s) setup ScriptsAndSchedule scripts_and_schedule (stays f s) kind f s config before
+            (adds_alone WorldView (does_in f s) initial ScriptsAndSchedule scripts_and_schedule (stays f s) kind f s config before
                 (after w.add_rule.new.memory w.add_rule.new.control later) refl w.in-Add.prefix w.in-Add.hop (Err w.in-Err.refusal) does).0,
           )))
       | in-Delete+in-Ok-delete_rule w ↦ carried Came w.in-Delete.is w.memory-is w.control-is w.reply-is
-          (came (w.in-Ok-delete_rule.ensures.deletes setup steps did rests) (λ later does. (deletes_alone WorldView (does_in f s) setup ScriptsAndSchedule scripts_and_schedule (stays f s) kind f s config before
+          (came (w.in-Ok-delete_rule.ensures.deletes initial steps did rests) (λ later does. (deletes_alone WorldView (does_in f s) initial ScriptsAndSchedule scripts_and_schedule (stays f s) kind f s config before
           (after w.delete_rule.new.memory w.delete_rule.new.control later) refl w.in-Delete.prefix (Ok w.in-Ok-delete_rule.hop) does).0))
       | in-Delete+in-Err-delete_rule w ↦ carried Came w.in-Delete.is w.memory-is w.control-is w.reply-is
-          (came (w.in-Err-delete_rule.ensures.deletes setup steps did rests) (λ later does. (deletes_alone WorldView (does_in f s) setup ScriptsAndSchedule scripts_and_schedule (stays f s) kind f s config before
+          (came (w.in-Err-delete_rule.ensures.deletes initial steps did rests) (λ later does. (deletes_alone WorldView (does_in f s) initial ScriptsAndSchedule scripts_and_schedule (stays f s) kind f s config before
           (after w.delete_rule.new.memory w.delete_rule.new.control later) refl w.in-Delete.prefix (Err w.in-Err-delete_rule.refusal) does).0))
       | in-Flush+in-Ok-flush_rules w ↦ carried Came w.in-Flush.is w.memory-is w.control-is w.reply-is
-          (came (w.in-Ok-flush_rules.ensures.flushes setup steps did rests) (λ later does. (flushes_alone WorldView (does_in f s) setup ScriptsAndSchedule scripts_and_schedule (stays f s) kind f s config before
+          (came (w.in-Ok-flush_rules.ensures.flushes initial steps did rests) (λ later does. (flushes_alone WorldView (does_in f s) initial ScriptsAndSchedule scripts_and_schedule (stays f s) kind f s config before
           (after w.flush_rules.new.memory w.flush_rules.new.control later) refl (Ok w.in-Ok-flush_rules.count) does).0))
       | in-Flush+in-Err-flush_rules w ↦ carried Came w.in-Flush.is w.memory-is w.control-is w.reply-is
-          (came (w.in-Err-flush_rules.ensures.flushes setup steps did rests) (λ later does. (flushes_alone WorldView (does_in f s) setup ScriptsAndSchedule scripts_and_schedule (stays f s) kind f s config before
+          (came (w.in-Err-flush_rules.ensures.flushes initial steps did rests) (λ later does. (flushes_alone WorldView (does_in f s) initial ScriptsAndSchedule scripts_and_schedule (stays f s) kind f s config before
           (after w.flush_rules.new.memory w.flush_rules.new.control later) refl (Err w.in-Err-flush_rules.refusal) does).0))
       | in-Reclaim w ↦ carried Came w.in-Reclaim.is w.memory-is w.control-is w.reply-is
-          (came (w.reclaim_groups.ensures.frees setup steps did rests) (λ later does. (frees_alone WorldView (does_in f s) setup ScriptsAndSchedule scripts_and_schedule (stays f s) kind f s config before
+          (came (w.reclaim_groups.ensures.frees initial steps did rests) (λ later does. (frees_alone WorldView (does_in f s) initial ScriptsAndSchedule scripts_and_schedule (stays f s) kind f s config before
           (after w.reclaim_groups.new.memory w.reclaim_groups.new.control later) refl w.in-Reclaim.max w.reclaim_groups.result does).0))
     ]
 
@@ -111,7 +111,7 @@ weaker None f g h = f h
 weaker (Some a) f g h = g a h
 
 pub returns-in-Synchronize-clause-replies : goal.returns-in-Synchronize-clause-replies
-returns-in-Synchronize-clause-replies g c = λ setup steps did rests.
+returns-in-Synchronize-clause-replies g c = λ initial steps did rests.
     let f = g.row.FIRST in
     let s = g.row.SECOND in
     let old = c.args.control.now in
@@ -121,6 +121,6 @@ returns-in-Synchronize-clause-replies g c = λ setup steps did rests.
       now.0,
       now.1,
       now.2,
-      subst (λ change. Answers setup f s old.config (state_by_steps old.rules steps old.pool old.versions) change reply (state_by_steps l.rules now.0 l.pool l.versions)) (sym c.in-Synchronize.is) now.3,
+      subst (λ change. Answers initial f s old.config (state_by_steps old.rules steps old.pool old.versions) change reply (state_by_steps l.rules now.0 l.pool l.versions)) (sym c.in-Synchronize.is) now.3,
     ))
-    (c.synchronize.ensures.replies setup steps did rests)
+    (c.synchronize.ensures.replies initial steps did rests)

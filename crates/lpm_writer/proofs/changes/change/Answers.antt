@@ -16,17 +16,17 @@ use Rattle.lpm_writer.proofs.changes.change.Goals.{After-open}
 use Rattle.lpm_writer.proofs.changes.change.Goals as goal
 
 -- the update has begun
-begun : (g : Over) (c : After-open g) (setup : InitialState) (steps : List WriterStep) → g.M.Memory.did c.args.memory.now setup steps
+begun : (g : Over) (c : After-open g) (initial : InitialState) (steps : List WriterStep) → g.M.Memory.did c.args.memory.now initial steps
     → let l = c.args.control.now in
-    IsDue g.row.FIRST g.row.SECOND setup steps l.config l.rules l.pool l.versions c.args.update c.args.rule_change.now
-    → g.M.Memory.did c.open.new.self setup (BeginUpdate c.args.rule_change.now ∷ steps) × MayMake g.row.FIRST g.row.SECOND setup (BeginUpdate c.args.rule_change.now ∷ steps) c.args.update l.pool
+    IsDue g.row.FIRST g.row.SECOND initial steps l.config l.rules l.pool l.versions c.args.update c.args.rule_change.now
+    → g.M.Memory.did c.open.new.self initial (BeginUpdate c.args.rule_change.now ∷ steps) × MayMake g.row.FIRST g.row.SECOND initial (BeginUpdate c.args.rule_change.now ∷ steps) c.args.update l.pool
     × IsTied g.row.FIRST l.pool.groups (group_held c.args.update (g.M.Cells.words c.open.new.self).firsts) × (g.M.Memory.newest c.open.new.self + length l.pool.groups ≤ 2 ^ 62)
-begun g c setup steps did due =
+begun g c initial steps did due =
     let l = c.args.control.now in
-    due_opened g.row.FIRST g.row.SECOND setup steps l.config l.rules l.pool l.versions c.args.update c.args.rule_change.now due (memory g) c.args.memory.now did c.open.new.self c.open.ensures.does
+    due_opened g.row.FIRST g.row.SECOND initial steps l.config l.rules l.pool l.versions c.args.update c.args.rule_change.now due (memory g) c.args.memory.now did c.open.new.self c.open.ensures.does
 
 -- so after some steps
-begins : (g : Over) (c : After-open g) → (setup : InitialState) × (steps : List WriterStep) × g.M.Memory.did c.open.new.self setup steps × MayMake g.row.FIRST g.row.SECOND setup steps c.args.update c.args.control.now.pool
+begins : (g : Over) (c : After-open g) → (initial : InitialState) × (steps : List WriterStep) × g.M.Memory.did c.open.new.self initial steps × MayMake g.row.FIRST g.row.SECOND initial steps c.args.update c.args.control.now.pool
 begins g c = let d = c.requires.due in let now = begun g c d.0 d.1 d.2 d.3 in (d.0, BeginUpdate c.args.rule_change.now ∷ d.1, now.0, now.1)
 
 pub open-requires : goal.open-requires
@@ -96,7 +96,7 @@ pub overflow_add-control : goal.overflow_add-control
 overflow_add-control g c = let few = c.requires.due.3.few in let same = c.loop-group.invariant.versions in omega (arith, few, same)
 
 pub returns-clause-changed : goal.returns-clause-changed
-returns-clause-changed g c = λ setup steps did due.
+returns-clause-changed g c = λ initial steps did due.
     let f = g.row.FIRST in
     let s = g.row.SECOND in
     let l = c.args.control.now in
@@ -104,16 +104,16 @@ returns-clause-changed g c = λ setup steps did due.
     let now = x.invariant in
     let change = c.args.rule_change.now in
     let at = (goal.at.returns-clause-changed g c).After-open in
-    let opened = begun g at setup steps did due in
+    let opened = begun g at initial steps did due in
     let over = run_over (memory g) f s x.control.config c.open.new.self l.pool c.args.update (begins g at) x.memory x.control.pool x.update now.under_way c.run.new.self c.run.new.cells c.in_default.ensures in
-    let made = over.0 setup (BeginUpdate change ∷ steps) opened.0 opened.1 in
-    let all = subst (λ k. HasMade g.M.Memory.does setup k c.open.new.self (BeginUpdate change ∷ steps) l.pool c.run.new.cells made.0 x.control.pool) now.config made.2 in
-    let end = due_closed f s setup steps l.config l.rules l.pool l.versions c.args.update change due (memory g) c.args.memory.now did c.open.new.self c.open.ensures.does
+    let made = over.0 initial (BeginUpdate change ∷ steps) opened.0 opened.1 in
+    let all = subst (λ k. HasMade g.M.Memory.does initial k c.open.new.self (BeginUpdate change ∷ steps) l.pool c.run.new.cells made.0 x.control.pool) now.config made.2 in
+    let end = due_closed f s initial steps l.config l.rules l.pool l.versions c.args.update change due (memory g) c.args.memory.now did c.open.new.self c.open.ensures.does
     c.run.new.cells c.close.new.self made.0 x.control.pool made.1 all c.close.ensures.does over.1 over.2 now.under_way.queued now.under_way.states in
     let later = EndUpdate ∷ made.0 in
-    let rests = subst (λ n. IsResting f s setup later l.config l.rules x.control.pool (n + 1)) (sym now.versions) end.1 in
-    let rules = subst (λ (r : RuleList). IsResting f s setup later l.config r x.control.pool (x.control.versions + 1)) (sym now.rules) rests in
-    (later, end.0, subst (λ (k : Config). IsResting f s setup later k x.control.rules x.control.pool (x.control.versions + 1)) (sym now.config) rules, end.2)
+    let rests = subst (λ n. IsResting f s initial later l.config l.rules x.control.pool (n + 1)) (sym now.versions) end.1 in
+    let rules = subst (λ (r : RuleList). IsResting f s initial later l.config r x.control.pool (x.control.versions + 1)) (sym now.rules) rests in
+    (later, end.0, subst (λ (k : Config). IsResting f s initial later k x.control.rules x.control.pool (x.control.versions + 1)) (sym now.config) rules, end.2)
 
 pub returns-clause-stays : goal.returns-clause-stays
 returns-clause-stays g c = c.loop-group.invariant.under_way.stays

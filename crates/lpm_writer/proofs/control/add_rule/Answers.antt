@@ -43,35 +43,35 @@ group_for-requires g c =
     )
 
 -- the group was found by checks alone, and the update is due
-ready : (g : Over) (c : After-from-in-Ok-group_for-2 g) (setup : InitialState) (steps : List WriterStep) → g.M.Memory.did c.args.memory.now setup steps → Rests setup steps c.args.control.now
-    → (later : List WriterStep) × g.M.Memory.did c.group_for.new.memory setup later
-    × IsDue g.row.FIRST g.row.SECOND setup later c.args.control.now.config c.put.new.self c.group_for.new.pool c.args.control.now.versions c.add-update.result (Puts c.from.result c.from-in-Ok-group_for.result c.from-in-Ok-group_for-2.result)
-    × Finds (by_writer g.M.Memory.does setup) g.row.FIRST g.row.SECOND (state_after setup steps).words.firsts c.args.prefix.now (c.is_linked-linked.new.memory, steps) c.args.control.now.pool (Ok c.in-Ok-group_for.group) (c.group_for.new.memory, later) c.group_for.new.pool
-    × HasTokens (by_writer g.M.Memory.does setup) c.args.control.now.config (state_of c.args.control.now.rules.rules (c.is_linked-linked.new.memory, steps) c.args.control.now.pool c.args.control.now.versions)
-ready g c setup steps did rest =
+ready : (g : Over) (c : After-from-in-Ok-group_for-2 g) (initial : InitialState) (steps : List WriterStep) → g.M.Memory.did c.args.memory.now initial steps → Rests initial steps c.args.control.now
+    → (later : List WriterStep) × g.M.Memory.did c.group_for.new.memory initial later
+    × IsDue g.row.FIRST g.row.SECOND initial later c.args.control.now.config c.put.new.self c.group_for.new.pool c.args.control.now.versions c.add-update.result (Puts c.from.result c.from-in-Ok-group_for.result c.from-in-Ok-group_for-2.result)
+    × Finds (by_writer g.M.Memory.does initial) g.row.FIRST g.row.SECOND (state_after initial steps).words.firsts c.args.prefix.now (c.is_linked-linked.new.memory, steps) c.args.control.now.pool (Ok c.in-Ok-group_for.group) (c.group_for.new.memory, later) c.group_for.new.pool
+    × HasTokens (by_writer g.M.Memory.does initial) c.args.control.now.config (state_of c.args.control.now.rules.rules (c.is_linked-linked.new.memory, steps) c.args.control.now.pool c.args.control.now.versions)
+ready g c initial steps did rest =
     let f = g.row.FIRST in
     let s = g.row.SECOND in
     let k = g.M.Memory in
     let l = c.args.control.now in
     let p = c.args.prefix.now in
     let m = c.is_linked-linked.new.memory in
-    let t = by_writer k.does setup in
+    let t = by_writer k.does initial in
     let x : g.row.M.Denot × List WriterStep = (m, steps) in
     let group = c.in-Ok-group_for.group in
     let mid = c.group_for.new.pool in
     let y = c.group_for.new.memory in
     let u = c.add-update in
-    let began : k.did m setup steps = subst (λ y. k.did y setup steps) (sym c.is_linked-linked.ensures.same) did in
+    let began : k.did m initial steps = subst (λ y. k.did y initial steps) (sym c.is_linked-linked.ensures.same) did in
     let low = shr_below p.bits f s c.bits-bits.ensures.network.1 in
-    let found = c.in-Ok-group_for.ensures.finds setup steps began (between_take setup steps l.pool rest.between rest.keeps) in
-    let finds = subst (λ (V : Words). Finds t f s V.firsts p x l.pool (Ok group) (y, found.0) mid) (g.met.M.Memory.shows m setup steps began).0 found.4 in
-    let nothing = after_find k.does setup f s (state_after setup steps).words.firsts p x l.pool (Ok group) (y, found.0) mid finds in
+    let found = c.in-Ok-group_for.ensures.finds initial steps began (between_take initial steps l.pool rest.between rest.keeps) in
+    let finds = subst (λ (V : Words). Finds t f s V.firsts p x l.pool (Ok group) (y, found.0) mid) (g.met.M.Memory.shows m initial steps began).0 found.4 in
+    let nothing = after_find k.does initial f s (state_after initial steps).words.firsts p x l.pool (Ok group) (y, found.0) mid finds in
     let sound : IsNetwork (f + s) p × (c.args.hop < 2 ^ 24) = (c.bits-bits.ensures.network, subst (λ n. n < 2 ^ 24) c.number-number.ensures.value c.number-number.ensures.bound) in
     let is : Puts c.from.result c.from-in-Ok-group_for.result c.from-in-Ok-group_for-2.result ≡ Puts p.bits p.len c.args.hop = cc (c.from.ensures, c.bits-bits.ensures.value, c.from-in-Ok-group_for.ensures, c.len-len.ensures.value, c.from-in-Ok-group_for-2.ensures, c.number-number.ensures.value) in
-    let left = has_tokens t l.config (state_of l.rules.rules x l.pool l.versions) c.is_exhausted.result c.if-is_exhausted.false (c.is_exhausted.ensures setup steps did) in (
+    let left = has_tokens t l.config (state_of l.rules.rules x l.pool l.versions) c.is_exhausted.result c.if-is_exhausted.false (c.is_exhausted.ensures initial steps did) in (
       found.0,
       found.1,
-      found_due f s setup steps l.config l.rules l.pool l.versions rest p low t x c.args.hop group (y, found.0) mid found.0 c.put.new.self u.result (Puts c.from.result c.from-in-Ok-group_for.result c.from-in-Ok-group_for-2.result)
+      found_due f s initial steps l.config l.rules l.pool l.versions rest p low t x c.args.hop group (y, found.0) mid found.0 c.put.new.self u.result (Puts c.from.result c.from-in-Ok-group_for.result c.from-in-Ok-group_for-2.result)
           finds found.2 nothing found.3 c.in-Ok-group_for.ensures.queued u.ensures.begun u.ensures.fills u.ensures.held c.in-Ok.ensures.ok is sound left,
       finds,
       left,
@@ -84,27 +84,27 @@ change-requires g c =
     (lit< tt, (r.0, d.0, d.1, d.2))
 
 pub returns-in-Ok-group_for-clause-adds : goal.returns-in-Ok-group_for-clause-adds
-returns-in-Ok-group_for-clause-adds g c = λ setup steps did rest.
+returns-in-Ok-group_for-clause-adds g c = λ initial steps did rest.
     let f = g.row.FIRST in
     let s = g.row.SECOND in
     let l = c.args.control.now in
     let p = c.args.prefix.now in
-    let t = by_writer g.M.Memory.does setup in
+    let t = by_writer g.M.Memory.does initial in
     let x : g.row.M.Denot × List WriterStep = (c.is_linked-linked.new.memory, steps) in
     let z = c.change.new.memory in
     let new = c.change.new.control in
     let then = c.change.ensures in
     let put = c.in-Ok.ensures in
     let low = shr_below p.bits f s c.bits-bits.ensures.network.1 in
-    let d = ready g (goal.at.returns-in-Ok-group_for-clause-adds g c).After-from-in-Ok-group_for-2 setup steps did rest in
-    let made = then.changed setup d.0 d.1 d.2 in
+    let d = ready g (goal.at.returns-in-Ok-group_for-clause-adds g c).After-from-in-Ok-group_for-2 initial steps did rest in
+    let made = then.changed initial d.0 d.1 d.2 in
     let put_in = ap (λ (r : RuleList). r.rules) (then.rules ∙ put.ok) in
-    let linked = linked_resting f s setup made.0 new.config new.rules new.pool new.versions made.2 in (
+    let linked = linked_resting f s initial made.0 new.config new.rules new.pool new.versions made.2 in (
       made.0,
       made.1,
       made.2,
       subst (λ y. Adds t f s l.config (state_of l.rules.rules (y, steps) l.pool l.versions) p c.args.hop (Ok c.in-Ok.put) (state_of new.rules.rules (z, made.0) new.pool new.versions)) c.is_linked-linked.ensures.same
-          (found_adds f s setup steps l.config l.rules l.pool l.versions rest p low t x c.args.hop c.in-Ok.put c.in-Ok-group_for.group (c.group_for.new.memory, d.0) (z, made.0) c.group_for.new.pool new.pool new.rules new.versions
+          (found_adds f s initial steps l.config l.rules l.pool l.versions rest p low t x c.args.hop c.in-Ok.put c.in-Ok-group_for.group (c.group_for.new.memory, d.0) (z, made.0) c.group_for.new.pool new.pool new.rules new.versions
           d.3 made.3 linked put_in then.versions c.in_default-put.not-Unchanged put.replaced.0 (λ e. put.new.0 (inl e)) d.4),
     )
 
@@ -127,7 +127,7 @@ returns-in-Ok-group_for-clause-least g c =
     subst (LinksLeast l.pool.groups) (sym (then.stays (now ∙ ap (groups_in_use f s) put_in ∙ sym was))) c.in-Ok-group_for.ensures.least
 
 pub returns-in-Err-clause-adds : goal.returns-in-Err-clause-adds
-returns-in-Err-clause-adds g c = λ setup steps did rest.
+returns-in-Err-clause-adds g c = λ initial steps did rest.
     let f = g.row.FIRST in
     let s = g.row.SECOND in
     let k = g.M.Memory in
@@ -137,28 +137,28 @@ returns-in-Err-clause-adds g c = λ setup steps did rest.
     let h = c.args.hop in
     let m = c.is_linked-linked.new.memory in
     let same_memory = c.is_linked-linked.ensures.same in
-    let began : k.did m setup steps = subst (λ y. k.did y setup steps) (sym same_memory) did in
-    let t = by_writer k.does setup in
+    let began : k.did m initial steps = subst (λ y. k.did y initial steps) (sym same_memory) did in
+    let t = by_writer k.does initial in
     let x : g.row.M.Denot × List WriterStep = (m, steps) in
     let put = c.in-Ok.ensures in
     let low = shr_below p.bits f s c.bits-bits.ensures.network.1 in
     let oldest = c.in-Err.oldest in
     let mid = c.group_for.new.pool in
     let y = c.group_for.new.memory in
-    let found = c.in-Err.ensures.finds setup steps began (between_take setup steps l.pool rest.between rest.keeps) in
-    let finds = subst (λ (V : Words). Finds t f s V.firsts p x l.pool (Err oldest) (y, found.0) mid) (met.shows m setup steps began).0 found.4 in
-    let nothing = after_find k.does setup f s (state_after setup steps).words.firsts p x l.pool (Err oldest) (y, found.0) mid finds in
-    let none = absent f s setup steps l.config l.rules l.pool l.versions rest p low finds.0 in
+    let found = c.in-Err.ensures.finds initial steps began (between_take initial steps l.pool rest.between rest.keeps) in
+    let finds = subst (λ (V : Words). Finds t f s V.firsts p x l.pool (Err oldest) (y, found.0) mid) (met.shows m initial steps began).0 found.4 in
+    let nothing = after_find k.does initial f s (state_after initial steps).words.firsts p x l.pool (Err oldest) (y, found.0) mid finds in
+    let none = absent f s initial steps l.config l.rules l.pool l.versions rest p low finds.0 in
     let back = taken_back l.rules p h c.put.new.self c.remove.new.self c.remove.result put.ok none c.remove.ensures.hop c.remove.ensures.ok in
     let room = put_room l.rules.rules p h l.rules.max c.in-Ok.put put.unchanged.0 put.replaced.0 (λ e. put.new.0 (inl e)) none in
-    let left = has_tokens t l.config (state_of l.rules.rules x l.pool l.versions) c.is_exhausted.result c.if-is_exhausted.false (c.is_exhausted.ensures setup steps did) in
+    let left = has_tokens t l.config (state_of l.rules.rules x l.pool l.versions) c.is_exhausted.result c.if-is_exhausted.false (c.is_exhausted.ensures initial steps did) in
     let stays = c.in-Err.ensures.unchanged in
-    let tied = subst (λ xs. IsTied f xs (group_at (state_after setup steps).words.firsts)) (sym stays.0) rest.tied in
-    let after = rests_still f s setup steps found.0 l.config l.rules l.pool mid l.versions rest found.2 nothing found.3 tied c.in-Err.ensures.queued (ap length stays.0) in
-    let adds = none_adds f s setup steps l.config l.rules l.pool l.versions rest p low t x h oldest (y, found.0) mid finds stays.1 room left in (
+    let tied = subst (λ xs. IsTied f xs (group_at (state_after initial steps).words.firsts)) (sym stays.0) rest.tied in
+    let after = rests_still f s initial steps found.0 l.config l.rules l.pool mid l.versions rest found.2 nothing found.3 tied c.in-Err.ensures.queued (ap length stays.0) in
+    let adds = none_adds f s initial steps l.config l.rules l.pool l.versions rest p low t x h oldest (y, found.0) mid finds stays.1 room left in (
       found.0,
       found.1,
-      subst (λ (r : RuleList). IsResting f s setup found.0 l.config r mid l.versions) (sym back) after,
+      subst (λ (r : RuleList). IsResting f s initial found.0 l.config r mid l.versions) (sym back) after,
       subst (λ m. Adds t f s l.config (state_of l.rules.rules (m, steps) l.pool l.versions) p h (Err (NoGroups oldest)) (state_of c.remove.new.self.rules (y, found.0) mid l.versions)) same_memory
           (subst (λ (r : RuleList). Adds t f s l.config (state_of l.rules.rules x l.pool l.versions) p h (Err (NoGroups oldest)) (state_of r.rules (y, found.0) mid l.versions)) (sym back) adds),
     )

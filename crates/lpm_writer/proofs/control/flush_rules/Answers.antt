@@ -15,27 +15,27 @@ use Rattle.lpm_writer.proofs.control.flush_rules.Goals.{After-flush-update}
 use Rattle.lpm_writer.proofs.control.flush_rules.Goals as goal
 
 -- the update is due, and tokens and versions are left
-due : (g : Over) (c : After-flush-update g) (setup : InitialState) (steps : List WriterStep) → g.M.Memory.did c.args.memory.now setup steps → Rests setup steps c.args.control.now
-    → IsDue g.row.FIRST g.row.SECOND setup steps c.args.control.now.config c.clear-count.new.self c.args.control.now.pool c.args.control.now.versions c.flush-update.result Clear
-    × HasTokens (by_writer g.M.Memory.does setup) c.args.control.now.config (state_of c.args.control.now.rules.rules (c.args.memory.now, steps) c.args.control.now.pool c.args.control.now.versions)
-due g c setup steps did rest =
+due : (g : Over) (c : After-flush-update g) (initial : InitialState) (steps : List WriterStep) → g.M.Memory.did c.args.memory.now initial steps → Rests initial steps c.args.control.now
+    → IsDue g.row.FIRST g.row.SECOND initial steps c.args.control.now.config c.clear-count.new.self c.args.control.now.pool c.args.control.now.versions c.flush-update.result Clear
+    × HasTokens (by_writer g.M.Memory.does initial) c.args.control.now.config (state_of c.args.control.now.rules.rules (c.args.memory.now, steps) c.args.control.now.pool c.args.control.now.versions)
+due g c initial steps did rest =
     let l = c.args.control.now in
     let u = c.flush-update in
-    let begins = u.ensures.begun l.rules.rules (state_after setup steps).words rest.represents in
-    let left = has_tokens (by_writer g.M.Memory.does setup) l.config (state_of l.rules.rules (c.args.memory.now, steps) l.pool l.versions) c.is_exhausted.result c.if-is_exhausted.false (c.is_exhausted.ensures setup steps did) in
-    (due_at_rest g.row.FIRST g.row.SECOND setup steps l.config l.rules c.clear-count.new.self l.pool l.versions rest (empty {R = network_cmp}) u.result Clear begins c.clear-count.ensures.empty refl tt u.ensures.fills u.ensures.held left, left)
+    let begins = u.ensures.begun l.rules.rules (state_after initial steps).words rest.represents in
+    let left = has_tokens (by_writer g.M.Memory.does initial) l.config (state_of l.rules.rules (c.args.memory.now, steps) l.pool l.versions) c.is_exhausted.result c.if-is_exhausted.false (c.is_exhausted.ensures initial steps did) in
+    (due_at_rest g.row.FIRST g.row.SECOND initial steps l.config l.rules c.clear-count.new.self l.pool l.versions rest (empty {R = network_cmp}) u.result Clear begins c.clear-count.ensures.empty refl tt u.ensures.fills u.ensures.held left, left)
 
 pub change-requires : goal.change-requires
 change-requires g c = let r = c.requires.rests in (lit< tt, (r.0, r.1, r.2, (due g (goal.at.change-requires g c).After-flush-update r.0 r.1 r.2 r.3).0))
 
 pub returns-clause-flushes : goal.returns-clause-flushes
-returns-clause-flushes g c = λ setup steps did rest.
+returns-clause-flushes g c = λ initial steps did rest.
     let l = c.args.control.now in
     let new = c.change.new.control in
     let then = c.change.ensures in
     let count = c.clear-count.ensures in
-    let ready = due g (goal.at.returns-clause-flushes g c).After-flush-update setup steps did rest in
-    let made = then.changed setup steps did ready.0 in
+    let ready = due g (goal.at.returns-clause-flushes g c).After-flush-update initial steps did rest in
+    let made = then.changed initial steps did ready.0 in
     let gone = ap (λ (y : RuleList). y.rules) (then.rules ∙ count.empty) in (
       made.0,
       made.1,
@@ -43,7 +43,7 @@ returns-clause-flushes g c = λ setup steps did rest.
       (
         count.count,
         (λ none. absurd (not_none c.is_empty.result c.if-is_empty.false (c.is_empty.ensures.1 (sym count.count ∙ none)))),
-        λ _. shrinks (by_writer g.M.Memory.does setup) g.row.FIRST g.row.SECOND setup steps made.0 l.config new.config l.rules new.rules l.pool new.pool l.versions new.versions (empty {R = network_cmp})
+        λ _. shrinks (by_writer g.M.Memory.does initial) g.row.FIRST g.row.SECOND initial steps made.0 l.config new.config l.rules new.rules l.pool new.pool l.versions new.versions (empty {R = network_cmp})
             (c.args.memory.now, steps) (c.change.new.memory, made.0) rest made.2 gone then.versions ready.1 made.3,
       ),
     )

@@ -1,5 +1,5 @@
 use Rattle.std.proofs.Common.{rules}
-use Rattle.lpm_writer.proofs.Opened.{settled}
+use Rattle.lpm_writer.proofs.Initial.{settled}
 use Rattle.lpm_writer.proofs.opening.open.Goals as goal
 
 -- src/opening.rt:52:1

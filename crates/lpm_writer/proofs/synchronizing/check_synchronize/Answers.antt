@@ -13,7 +13,7 @@ check_token-requires g c =
     record { may = (r.0, r.1, r.2, λ _. subst (MayAsk r.0 r.1) (sym newest) (asks_awaited g.row.FIRST g.row.SECOND r.0 l.config l.rules l.pool l.versions r.1 r.3)) }
 
 pub returns-clause-checks : goal.returns-clause-checks
-returns-clause-checks g c = λ setup steps did wait.
+returns-clause-checks g c = λ initial steps did wait.
     let f = g.row.FIRST in
     let s = g.row.SECOND in
     let does = g.M.Memory.does in
@@ -22,11 +22,11 @@ returns-clause-checks g c = λ setup steps did wait.
     let z = c.check_token.new.memory in
     let r = c.check_token.result in
     let value = c.token-token.ensures.value in
-    let newest = value ∙ (g.met.M.Memory.shows m setup steps did).1 in
-    let may = subst (MayAsk setup steps) (sym newest) (asks_awaited f s setup l.config l.rules l.pool l.versions steps wait) in
-    let done = c.check_token.ensures.checks setup steps did (remembers_awaited f s setup l.config l.rules l.pool l.versions steps wait) (λ _. may) in
-    let then = checked f s setup l.config l.rules l.pool l.versions steps wait does m z done.0 r c.check_token.new.passed (subst (λ t. Checks does setup (m, steps) t r (z, done.0)) newest done.2) done.3 c.check_token.ensures.stopped in
-    (done.0, done.1, subst (λ t. Checks does setup (m, steps) t r (z, done.0)) value done.2, then.0, then.1)
+    let newest = value ∙ (g.met.M.Memory.shows m initial steps did).1 in
+    let may = subst (MayAsk initial steps) (sym newest) (asks_awaited f s initial l.config l.rules l.pool l.versions steps wait) in
+    let done = c.check_token.ensures.checks initial steps did (remembers_awaited f s initial l.config l.rules l.pool l.versions steps wait) (λ _. may) in
+    let then = checked f s initial l.config l.rules l.pool l.versions steps wait does m z done.0 r c.check_token.new.passed (subst (λ t. Checks does initial (m, steps) t r (z, done.0)) newest done.2) done.3 c.check_token.ensures.stopped in
+    (done.0, done.1, subst (λ t. Checks does initial (m, steps) t r (z, done.0)) value done.2, then.0, then.1)
 
 pub returns-clause-queued : goal.returns-clause-queued
 returns-clause-queued g c =

@@ -9,13 +9,13 @@ start-requires-clause-may g c =
     (r.0, r.1, r.2, may_start r.0 r.1 r.3.between)
 
 pub returns-clause-starts : goal.returns-clause-starts
-returns-clause-starts g c = λ setup steps did rest.
+returns-clause-starts g c = λ initial steps did rest.
     let met = g.met.M.Memory in
     let l = c.args.control.now in
     let m = c.args.memory.now in
     let z = c.start.new.self in (
       BumpToken ∷ steps,
-      met.follows m BumpToken z setup steps c.start.ensures.does did (may_start setup steps rest.between),
+      met.follows m BumpToken z initial steps c.start.ensures.does did (may_start initial steps rest.between),
       (c.start.ensures.does, refl),
-      waits_started g.row.FIRST g.row.SECOND setup l.config l.rules l.pool l.versions steps (met.written m setup steps did) rest,
+      waits_started g.row.FIRST g.row.SECOND initial l.config l.rules l.pool l.versions steps (met.written m initial steps did) rest,
     )

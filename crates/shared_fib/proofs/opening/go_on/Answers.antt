@@ -34,7 +34,7 @@ pub new-requires-2 : goal.new-requires-2
 new-requires-2 g c =
     let f = g.row.FIRST in
     let s = g.row.SECOND in
-    let l = c.args.loaded in
+    let l = c.args.initial in
     let o : InitialData = initial_data_of f s l in
     let words = c.in_ok-words in
     let bench = c.in_ok-bench.ensures in
@@ -60,7 +60,7 @@ pub returns-clause-opened : goal.returns-clause-opened
 returns-clause-opened g c =
     let f = g.row.FIRST in
     let s = g.row.SECOND in
-    let l = c.args.loaded in
+    let l = c.args.initial in
     let words = c.in_ok-words in
     let bench = c.in_ok-bench.ensures in
     let z = c.first_control-control.result in

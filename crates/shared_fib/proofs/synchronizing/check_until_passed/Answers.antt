@@ -45,13 +45,13 @@ returns-in-Ok g c =
     let m : LentSeat = c.args.memory.now in
     let y : LentSeat = c.loop.memory in
     let z : LentSeat = c.check_synchronize.new.memory in
-    let setup : InitialState = initial_state_of m.view.initial in
+    let initial : InitialState = initial_state_of m.view.initial in
     let so_far = c.loop.invariant in
-    let now = c.in-Ok.ensures.checks setup y.view.seen so_far.waited.did so_far.waits in
+    let now = c.in-Ok.ensures.checks initial y.view.seen so_far.waited.did so_far.waits in
     let all : kept z ≡ kept m = still m y z so_far.waited now.0 now.1 (Ok tt) now.2 in
     let Rests : InitialState → List WriterStep → Type 0 = λ by later.
     IsResting f s by later new.config new.rules new.pool new.versions in
-    let rests = rests_after Rests z setup now.0 now.1 now.3 in
+    let rests = rests_after Rests z initial now.0 now.1 now.3 in
     let passed : ControlState f s → ControlState f s = λ l.
     record l { pool = record l.pool { passed = new.pool.passed } } in
     let is : new ≡ passed c.args.control.now =

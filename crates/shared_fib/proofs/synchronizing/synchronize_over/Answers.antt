@@ -20,12 +20,12 @@ check_until_passed-requires g c =
     let l = c.args.control.now in
     let m : LentSeat = c.args.memory.now in
     let z : LentSeat = c.start_synchronize.new.memory in
-    let setup : InitialState = initial_state_of m.view.initial in
-    let started = c.in_ok-start_synchronize.ensures.starts setup m.view.seen c.requires.did c.requires.rests in
+    let initial : InitialState = initial_state_of m.view.initial in
+    let started = c.in_ok-start_synchronize.ensures.starts initial m.view.seen c.requires.did c.requires.rests in
     let Waits : InitialState → List WriterStep → Type 0 = λ by later.
     IsWaiting g.row.FIRST g.row.SECOND by later l.config l.rules l.pool l.versions in
-    let did = rests_after (SharedDid z) z setup started.0 started.1 started.1 in
-    (omega arith, (omega arith, (did, rests_after Waits z setup started.0 started.1 started.3)))
+    let did = rests_after (SharedDid z) z initial started.0 started.1 started.1 in
+    (omega arith, (omega arith, (did, rests_after Waits z initial started.0 started.1 started.3)))
 
 pub returns-in_err-start_synchronize-clause-exhausted : goal.returns-in_err-start_synchronize-clause-exhausted
 returns-in_err-start_synchronize-clause-exhausted g c =
@@ -40,13 +40,13 @@ returns g c =
     let m : LentSeat = c.args.memory.now in
     let y : LentSeat = c.start_synchronize.new.memory in
     let z : LentSeat = c.check_until_passed.new.memory in
-    let setup : InitialState = initial_state_of m.view.initial in
-    let started = c.in_ok-start_synchronize.ensures.starts setup m.view.seen c.requires.did c.requires.rests in
+    let initial : InitialState = initial_state_of m.view.initial in
+    let started = c.in_ok-start_synchronize.ensures.starts initial m.view.seen c.requires.did c.requires.rests in
     let does = started.2.0 in
     let passed = c.check_until_passed.ensures in
     let after : View → View = λ v. record v { seen = z.view.seen } in
     record {
-      exhausted = exhausted_by setup m.view.seen _ c.args.control.now.config.groups c.in_ok-start_synchronize.ensures.exhausted;
+      exhausted = exhausted_by initial m.view.seen _ c.args.control.now.config.groups c.in_ok-start_synchronize.ensures.exhausted;
       synchronizes = synchronized m y z.view.seen does passed.passes;
       queued = passed.queued;
       rests = passed.rests;

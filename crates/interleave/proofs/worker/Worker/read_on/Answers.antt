@@ -13,10 +13,10 @@ read_first-requires g c =
     (omega arith, (c.requires.shape, (c.requires.words, (next, addr))))
 
 pub returns-in-Some-clause-step : goal.returns-in-Some-clause-step
-returns-in-Some-clause-step g c setup w r of shows doing = record {
+returns-in-Some-clause-step g c initial w r of shows doing = record {
   made = _;
   goes = tt;
-  makes = c.read_first.ensures.step setup w r of shows doing;
+  makes = c.read_first.ensures.step initial w r of shows doing;
   noted = sym (append-nil _);
 }
 
@@ -29,9 +29,9 @@ read_second-requires g c =
     (omega arith, (c.requires.shape, (c.requires.words, (begun, (next, room)))))
 
 pub returns-in-Some-next_in_group-clause-step : goal.returns-in-Some-next_in_group-clause-step
-returns-in-Some-next_in_group-clause-step g c setup w r of shows doing = record {
+returns-in-Some-next_in_group-clause-step g c initial w r of shows doing = record {
   made = _;
   goes = tt;
-  makes = c.read_second.ensures.step setup w r of shows doing;
+  makes = c.read_second.ensures.step initial w r of shows doing;
   noted = sym (append-nil _);
 }

@@ -6,7 +6,7 @@ use Rattle.interleave.proofs.Lookups.{second_made}
 use Rattle.interleave.proofs.worker.Worker.read_second.Goals as goal
 
 pub returns-clause-step : goal.returns-clause-step
-returns-clause-step g c setup w r of shows doing =
+returns-clause-step g c initial w r of shows doing =
     let found = c.args.found.now in
     let seconds = c.args.shared.now.cells.seconds in
     let fits : found.group < 2 ^ 32 = omega arith in
@@ -16,5 +16,5 @@ returns-clause-step g c setup w r of shows doing =
     let word : c.second-word.result ≡ slice_index seconds index = c.second-word.ensures.value ∙ ap (slice_index seconds) place in
     let told = c.shown.ensures ∙ ap (λ i. step_of_worker c.args.number kind.LoadSecond i c.second-word.result) place in
     rw (← word)
-    (second_made setup w c.args.number c.args.now r c.args.self.now _ g.row.FIRST g.row.SECOND c.args.shared.now.cells c.args.shared.now.sequence c.args.shared.now.token c.shown.result of shows doing
+    (second_made initial w c.args.number c.args.now r c.args.self.now _ g.row.FIRST g.row.SECOND c.args.shared.now.cells c.args.shared.now.sequence c.args.shared.now.token c.shown.result of shows doing
     found c.second-word.result c.requires.begun c.requires.next (record { counter = refl; phase = refl; lo = refl; probes = refl }) word told)

@@ -3,7 +3,7 @@ use Rattle.std.specs.Prelude.{IsOk}
 use Rattle.std.specs.FinMap.{empty}
 use Rattle.lpm_rules.specs.RuleMap.{network_cmp}
 use Rattle.lpm_writer.specs.Resting.{blank_state, IsResting}
-use Rattle.lpm_writer.proofs.Opened.{opened_rests, new_books}
+use Rattle.lpm_writer.proofs.Initial.{opened_rests, new_books}
 use Rattle.lpm_writer.proofs.control.ControlState.new.Goals as goal
 
 -- src/opening.rt:23:5

@@ -1,4 +1,4 @@
--- What a table is opened with: its words are all misses, which represent no rules, and all groups are free.
+-- What a table begins with: its words are all misses, which represent no rules, and all groups are free.
 use Rattle.std.proofs.Common.{◌≡◌, ℕ, ◌+◌, ◌^◌, ◌<◌, ◌≤◌, inl, inr, refl, ap, sym, ◌∙◌, List, [], length, slice_get, slice_index, Some, arith, subst, zero, suc, ◌*◌, replicate}
 use Rattle.std.proofs.lemmas.Option.{none-some}
 use Rattle.std.proofs.lemmas.Bool.{cases_lt}
