@@ -1,6 +1,6 @@
 -- Meaning: the text of a report (this project's report: one line for each number).
 use Rattle.std.specs.Prelude.{ℕ, List, ◌++◌, codes, decimal}
-use Rattle.audit.specs.declared.report.Report.{Report}
+use Rattle.audit.specs.declared.report.TableCounts.{TableCounts}
 use Rattle.audit.specs.declared.report.StormReport.{StormReport}
 
 -- a name, a space, a number in decimal, and a line end
@@ -8,14 +8,14 @@ abbrev pub number_line : List ℕ → ℕ → List ℕ
 number_line name n = name ++ codes " " ++ decimal n ++ codes "\n"
 
 -- how many groups are in use, in limbo and free
-abbrev pub group_lines : Report → List ℕ
+abbrev pub group_lines : TableCounts → List ℕ
 group_lines report =
     number_line (codes "in use") report.in_use
     ++ number_line (codes "limbo") report.limbo
     ++ number_line (codes "free") report.free
 
 -- all counts of the table
-abbrev pub report_lines : Report → List ℕ
+abbrev pub report_lines : TableCounts → List ℕ
 report_lines report =
     number_line (codes "rules") report.rules
     ++ number_line (codes "versions") report.versions

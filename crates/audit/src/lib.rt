@@ -11,4 +11,4 @@ mod report;
 pub use counting::wrong;
 pub use expected::expect;
 pub use past::Past;
-pub use report::{Report, StormReport, report_text, storm_text};
+pub use report::{StormReport, TableCounts, report_text, storm_text};

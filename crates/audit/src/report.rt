@@ -8,7 +8,7 @@ use std::alloc::{AllocError, Global};
 
 /// The counts of a table.
 #[derive(Clone, Copy, Debug, PartialEq, Eq)]
-pub struct Report {
+pub struct TableCounts {
     /// The rules.
     pub rules: usize,
     /// The changes that made a version of the rule list.
@@ -34,7 +34,7 @@ pub struct StormReport {
     /// The answers that no version explains.
     pub wrong: u64,
     /// The counts of the table in the end.
-    pub table: Report,
+    pub table: TableCounts,
 }
 
 /// Adds the line of a name and a number to the text.
@@ -50,7 +50,7 @@ fn put_line(text: &mut Vec<u8>, name: &[u8], number: u64) -> Result<(), AllocErr
 }
 
 /// Adds the lines of the groups to the text.
-fn put_groups(text: &mut Vec<u8>, report: &Report) -> Result<(), AllocError>
+fn put_groups(text: &mut Vec<u8>, report: &TableCounts) -> Result<(), AllocError>
     ensures { OnOk result (text.new.items ≡ text.old.items ++ group_lines report.now) }
 {
     put_line(text, b"in use", report.in_use as u64)?;
@@ -59,7 +59,7 @@ fn put_groups(text: &mut Vec<u8>, report: &Report) -> Result<(), AllocError>
 }
 
 /// Adds the lines of the report to the text.
-fn put_report(text: &mut Vec<u8>, report: &Report) -> Result<(), AllocError>
+fn put_report(text: &mut Vec<u8>, report: &TableCounts) -> Result<(), AllocError>
     ensures { OnOk result (text.new.items ≡ text.old.items ++ report_lines report.now) }
 {
     put_line(text, b"rules", report.rules as u64)?;
@@ -72,7 +72,7 @@ fn put_report(text: &mut Vec<u8>, report: &Report) -> Result<(), AllocError>
 /// with a space, its number and a line end.
 ///
 /// `AllocError` comes where room for the text is refused.
-pub fn report_text(alloc: Global, report: &Report) -> Result<Vec<u8>, AllocError>
+pub fn report_text(alloc: Global, report: &TableCounts) -> Result<Vec<u8>, AllocError>
     ensures { IfOk result (λ v. v.items ≡ report_lines report.now) }
 {
     let mut text = Vec::new(alloc);

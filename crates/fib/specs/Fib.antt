@@ -4,7 +4,7 @@ use Rattle.std.specs.Coded.{Coded, code_by, coded×, coded_ℕ, coded_list}
 use Rattle.lpm_rules.specs.RuleMap.{RuleMap, coded_network}
 use Rattle.qsbr.specs.Counters.{Passes, Registry}
 use Rattle.lpm_limits.specs.declared.config.Config.{Config}
-use Rattle.fib_model.specs.declared.orders.Report.{Report}
+use Rattle.fib_model.specs.declared.orders.ReaderReport.{ReaderReport}
 use Rattle.fib_model.specs.Counting.{by_counters, initial_by_counters}
 use Rattle.fib_model.specs.State.{State}
 use Rattle.lpm_trace.specs.declared.step.WriterStep.{WriterStep}
@@ -36,7 +36,7 @@ abbrev pub initial_fib_with : Config → RuleMap → FibState
 initial_fib_with c R = initial_fib_at c R 0
 
 -- the table after a report of this worker
-abbrev pub state_after_report : Report → ℕ → FibState → FibState
+abbrev pub state_after_report : ReaderReport → ℕ → FibState → FibState
 state_after_report report worker f =
     let readers = by_counters.told report worker f.table.readers in
     record f { table = record f.table { readers = readers } }

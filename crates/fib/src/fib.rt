@@ -9,7 +9,7 @@ ghost use Rattle.lpm_limits.specs.Limits.{IsConfig};
 ghost use Rattle.fib_model.specs.Outcomes.{groups_in_use, Adds, Deletes, Flushes, Frees};
 ghost use Rattle.fib_model.specs.Counting.{by_counters, counter_transitions};
 ghost use Rattle.fib.specs.Fib.{IsSound, initial_fib, initial_fib_at, initial_fib_with, table_of, state_after_report};
-ghost use Rattle.fib_model.specs.declared.orders.Report.TheVariants as report;
+ghost use Rattle.fib_model.specs.declared.orders.ReaderReport.TheVariants as report;
 ghost use Rattle.lpm_limits.specs.declared.refusal.Refusal.{Refusal};
 ghost use Rattle.lpm_rules.specs.declared.Put.{Put};
 
@@ -21,7 +21,7 @@ use lpm_groups::Counts;
 use lpm_limits::{Config, Refusal};
 use lpm_rules::{Put, Rule, Rules};
 use lpm_writer::{
-    ControlState, PlainMemory, add_rule, delete_rule, flush_rules, open, reclaim_groups,
+    ControlState, PlainMemory, add_rule, delete_rule, flush_rules, open_memory, reclaim_groups,
 };
 use std::alloc::Global;
 use std::marker::Model;
@@ -62,7 +62,7 @@ impl<const FIRST: u32, const SECOND: u32> Fib<FIRST, SECOND> {
         ensures bad_config { IfErr result
             (λ error. (error ≡ OpenError.BadConfig) ↔ (¬ IsConfig config)) }
     {
-        let (control, memory) = open(alloc, config)?;
+        let (control, memory) = open_memory(alloc, config)?;
         Ok(Fib { control, memory })
     }
 

@@ -6,13 +6,13 @@ ghost use Rattle.fib_model.specs.Counting.{by_counters};
 ghost use Rattle.fib.specs.Replay.{GoesOn};
 
 use super::Fib;
-use fib_model::{Order, Outcome, Report};
+use fib_model::{Order, Outcome, ReaderReport};
 use lpm_limits::Refusal;
 use std::alloc::{AllocError, Global};
 
 impl<const FIRST: u32, const SECOND: u32> Fib<FIRST, SECOND> {
     /// Does what a worker's report asks for, where that worker may make it.
-    fn report(&mut self, report: Report, worker: u32) -> Outcome
+    fn report(&mut self, report: ReaderReport, worker: u32) -> Outcome
         ensures reports { Reports by_counters self.old.config self.old.table report worker
             result self.new.table }
         ensures config { self.new.config ≡ self.old.config }
@@ -22,11 +22,11 @@ impl<const FIRST: u32, const SECOND: u32> Fib<FIRST, SECOND> {
             return Outcome::Refused(Refusal::NoSuchWorker);
         }
         match (report, self.is_online(worker)) {
-            (Report::Online, false) => self.online(worker),
-            (Report::Offline, true) => self.offline(worker),
-            (Report::Quiescent, true) => self.quiescent(worker),
-            (Report::Online, true) => return Outcome::Refused(Refusal::AlreadyOnline),
-            (Report::Offline | Report::Quiescent, false) => {
+            (ReaderReport::Online, false) => self.online(worker),
+            (ReaderReport::Offline, true) => self.offline(worker),
+            (ReaderReport::Quiescent, true) => self.quiescent(worker),
+            (ReaderReport::Online, true) => return Outcome::Refused(Refusal::AlreadyOnline),
+            (ReaderReport::Offline | ReaderReport::Quiescent, false) => {
                 return Outcome::Refused(Refusal::NotOnline);
             }
         }
@@ -53,9 +53,9 @@ impl<const FIRST: u32, const SECOND: u32> Fib<FIRST, SECOND> {
                 Err(refusal) => return Outcome::Refused(refusal),
             },
             Order::Reclaim(max) => return Outcome::Reclaimed(self.reclaim(*max)),
-            Order::Online(worker) => return self.report(Report::Online, *worker),
-            Order::Offline(worker) => return self.report(Report::Offline, *worker),
-            Order::Quiescent(worker) => return self.report(Report::Quiescent, *worker),
+            Order::Online(worker) => return self.report(ReaderReport::Online, *worker),
+            Order::Offline(worker) => return self.report(ReaderReport::Offline, *worker),
+            Order::Quiescent(worker) => return self.report(ReaderReport::Quiescent, *worker),
         }
     }
 

@@ -6,7 +6,7 @@ use Rattle.std.proofs.lemmas.List.{get_or-replicate, get_or-set_same, get_or-set
 use Rattle.qsbr.specs.Counters.{IsOnline, IsPast, IsHolding, Registry}
 use Rattle.lpm_limits.specs.declared.busy.Busy.{Busy}
 use Rattle.lpm_limits.specs.declared.config.Config.{Config}
-use Rattle.fib_model.specs.declared.orders.Report.{Report}
+use Rattle.fib_model.specs.declared.orders.ReaderReport.{ReaderReport}
 use Rattle.fib_model.specs.declared.event.Event.{Event}
 use Rattle.fib_model.specs.declared.event.Event.TheVariants.{Online, Offline, Quiescent, Unlinking}
 use Rattle.qsbr.specs.Intervals.{event_at, IsRunningSince, IsHeldByWorker}
@@ -16,7 +16,7 @@ use Rattle.fib_model.specs.Counting.{IsFirstByCounter, by_counters, counter_of, 
 use Rattle.fib_model.proofs.Unique.{IsUnheld}
 use Rattle.fib_model.proofs.Carrying.{Carries, IsCarried, AreNamed}
 use Rattle.fib_model.proofs.Carried.{named_kept}
-use Rattle.fib_model.specs.declared.orders.Report.TheVariants as kinds
+use Rattle.fib_model.specs.declared.orders.ReaderReport.TheVariants as kinds
 
 -- the one running interval of worker w, and the token number at its beginning
 pub record IsOn (first : ℕ) (E : List Event) (w counter start : ℕ) : Type 0 where
@@ -223,28 +223,28 @@ shows_unlinked c r E shows = record {
 }
 
 -- what a report does to each worker's counter
-told_itself : (c : Config) (r : Registry) (E : List Event) (report : Report) (w : ℕ) → Shows c r E → (report ≡ kinds.Online → (s : ℕ) → IsRunningSince by_reports E w s → ⊥)
+told_itself : (c : Config) (r : Registry) (E : List Event) (report : ReaderReport) (w : ℕ) → Shows c r E → (report ≡ kinds.Online → (s : ℕ) → IsRunningSince by_reports E w s → ⊥)
     → IsKept c.first_token (event_of report w ∷ E) w (counter_of report r.token)
 told_itself c r E kinds.Online w shows fresh = kept_begins c.first_token r.token (Online w) E w r.token (eq-eqb w w refl) refl shows.token (λ s run _. fresh refl s run) refl
 told_itself c r E kinds.Offline w shows fresh = kept_ends c.first_token (Offline w) E w 0 false≢true (eq-eqb w w refl) refl
 told_itself c r E kinds.Quiescent w shows fresh = kept_begins c.first_token r.token (Quiescent w) E w r.token (eq-eqb w w refl) refl shows.token (λ s run lasts. lasts (eq-eqb w w refl)) refl
 
-no_beginning : (report : Report) (w v : ℕ) → v ≢ w → IsTrue (begins v (event_of report w)) → ⊥
+no_beginning : (report : ReaderReport) (w v : ℕ) → v ≢ w → IsTrue (begins v (event_of report w)) → ⊥
 no_beginning kinds.Online w v n is = n (sym (eqb-true w v is))
 no_beginning kinds.Offline w v n is = false≢true is
 no_beginning kinds.Quiescent w v n is = n (sym (eqb-true w v is))
 
-no_end : (report : Report) (w v : ℕ) → v ≢ w → IsTrue (ends v (event_of report w)) → ⊥
+no_end : (report : ReaderReport) (w v : ℕ) → v ≢ w → IsTrue (ends v (event_of report w)) → ⊥
 no_end kinds.Online w v n is = false≢true is
 no_end kinds.Offline w v n is = n (sym (eqb-true w v is))
 no_end kinds.Quiescent w v n is = n (sym (eqb-true w v is))
 
-is_report : (report : Report) (w : ℕ) → is_unlinking (event_of report w) ≡ false
+is_report : (report : ReaderReport) (w : ℕ) → is_unlinking (event_of report w) ≡ false
 is_report kinds.Online w = refl
 is_report kinds.Offline w = refl
 is_report kinds.Quiescent w = refl
 
-pub shows_told : (c : Config) (r : Registry) (E : List Event) (report : Report) (w : ℕ) → Shows c r E → w < c.workers → (report ≡ kinds.Online → (s : ℕ) → IsRunningSince by_reports E w s → ⊥)
+pub shows_told : (c : Config) (r : Registry) (E : List Event) (report : ReaderReport) (w : ℕ) → Shows c r E → w < c.workers → (report ≡ kinds.Online → (s : ℕ) → IsRunningSince by_reports E w s → ⊥)
     → Shows c (by_counters.told report w r) (event_of report w ∷ E)
 shows_told c r E report w shows low fresh =
     let many = shows.workers in

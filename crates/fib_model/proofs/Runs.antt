@@ -5,7 +5,7 @@ use Rattle.lpm_limits.specs.declared.config.Config.{Config}
 use Rattle.lpm_limits.specs.declared.refusal.Refusal.TheVariants.{NoSuchWorker}
 use Rattle.fib_model.specs.declared.orders.Order.{Order}
 use Rattle.fib_model.specs.declared.orders.Outcome.{Outcome}
-use Rattle.fib_model.specs.declared.orders.Report.{Report}
+use Rattle.fib_model.specs.declared.orders.ReaderReport.{ReaderReport}
 use Rattle.fib_model.specs.declared.event.Event.{Event}
 use Rattle.qsbr.specs.Intervals.{IsRunningSince, IsTidy}
 use Rattle.fib_model.specs.Textbook.{by_reports, textbook, by_intervals, initial_by_events, event_of}
@@ -23,7 +23,7 @@ use Rattle.qsbr.proofs.Running.{tidy_more}
 use Rattle.lpm_limits.specs.declared.busy.Busy.{Busy}
 use Rattle.fib_model.specs.declared.orders.Order.TheVariants as order
 use Rattle.fib_model.specs.declared.orders.Outcome.TheVariants as outcome
-use Rattle.fib_model.specs.declared.orders.Report.TheVariants as kinds
+use Rattle.fib_model.specs.declared.orders.ReaderReport.TheVariants as kinds
 
 -- some events that z's counters tell, so that the state by events is as D says
 abbrev Tells : Config → State Registry → (State (List Event) → Type 0) → Type 0
@@ -36,7 +36,7 @@ keeps c s z E ps shows names is D d = subst (λ (x : State Registry). Tells c x 
 
 -- ---- reports
 
-may : (c : Config) (s : State Registry) (E : List Event) (ps : List ℕ) (report : Report) (w : ℕ) → Shows c s.readers E → w < c.workers
+may : (c : Config) (s : State Registry) (E : List Event) (ps : List ℕ) (report : ReaderReport) (w : ℕ) → Shows c s.readers E → w < c.workers
     → MayReport by_counters s report w ↔ MayReport (by_intervals c) (beside s E ps) report w
 may c s E ps kinds.Online w shows low =
     let is = online c s.readers E w shows low in
@@ -44,12 +44,12 @@ may c s E ps kinds.Online w shows low =
 may c s E ps kinds.Offline w shows low = online c s.readers E w shows low
 may c s E ps kinds.Quiescent w shows low = online c s.readers E w shows low
 
-pub fresh : (c : Config) (s : State (List Event)) (report : Report) (w : ℕ) → MayReport (by_intervals c) s report w → report ≡ kinds.Online → (start : ℕ) → IsRunningSince by_reports s.readers w start → ⊥
+pub fresh : (c : Config) (s : State (List Event)) (report : ReaderReport) (w : ℕ) → MayReport (by_intervals c) s report w → report ≡ kinds.Online → (start : ℕ) → IsRunningSince by_reports s.readers w start → ⊥
 fresh c s kinds.Online w may is start r = may (start, r)
 fresh c s kinds.Offline w may is start r = cc
 fresh c s kinds.Quiescent w may is start r = cc
 
-reports : (c : Config) (s z : State Registry) (E : List Event) (ps : List ℕ) (report : Report) (w : ℕ) (o : Outcome) → Shows c s.readers E → AreNamed (IsName c.first_token E) s.limbo ps
+reports : (c : Config) (s z : State Registry) (E : List Event) (ps : List ℕ) (report : ReaderReport) (w : ℕ) (o : Outcome) → Shows c s.readers E → AreNamed (IsName c.first_token E) s.limbo ps
     → Reports by_counters c s report w o z → Tells c z (Reports (by_intervals c) c (beside s E ps) report w o)
 reports c s z E ps report w outcome.Told shows names d =
     let can = (may c s E ps report w shows d.0).0 d.1 in
@@ -147,7 +147,7 @@ front_removed (x ∷ limbo) u d some is = ap (λ y. y ∷ limbo) (sym is)
 pub tidy_unlinked : (workers : ℕ) (E : List Event) → IsTidy by_reports workers E → IsTidy by_reports workers (Unlinking ∷ E)
 tidy_unlinked workers E tidy = tidy_more by_reports workers Unlinking E tidy (λ w s begins r lasts. absurd (false≢true begins)) (λ w high. false≢true)
 
-pub tidy_told : (workers : ℕ) (E : List Event) (report : Report) (w : ℕ) → IsTidy by_reports workers E → w < workers → (report ≡ kinds.Online → (s : ℕ) → IsRunningSince by_reports E w s → ⊥) → IsTidy by_reports workers (event_of report w ∷ E)
+pub tidy_told : (workers : ℕ) (E : List Event) (report : ReaderReport) (w : ℕ) → IsTidy by_reports workers E → w < workers → (report ≡ kinds.Online → (s : ℕ) → IsRunningSince by_reports E w s → ⊥) → IsTidy by_reports workers (event_of report w ∷ E)
 tidy_told workers E kinds.Online w tidy low fresh =
     tidy_more by_reports workers (Online w) E tidy (λ v s begins r lasts. fresh refl s (subst (λ u. IsRunningSince by_reports E u s) (sym (eqb-true w v begins)) r)) (λ v high begins. let is = eqb-true w v begins in absurd (omega (arith, high, is, low)))
 tidy_told workers E kinds.Offline w tidy low fresh = tidy_more by_reports workers (Offline w) E tidy (λ v s begins r lasts. absurd (false≢true begins)) (λ v high. false≢true)
@@ -176,7 +176,7 @@ tidy_kept c = record {
   ends = λ E z tidy d. same c E z tidy d;
 }
 
-tidy_reports : (c : Config) (s z : State (List Event)) (report : Report) (w : ℕ) (o : Outcome) → IsTidyState c s → Reports (by_intervals c) c s report w o z → IsTidyState c z
+tidy_reports : (c : Config) (s z : State (List Event)) (report : ReaderReport) (w : ℕ) (o : Outcome) → IsTidyState c s → Reports (by_intervals c) c s report w o z → IsTidyState c z
 tidy_reports c s z report w outcome.Told tidy d =
     same c (event_of report w ∷ s.readers) z.readers (tidy_told c.workers s.readers report w tidy d.0 (fresh c s report w d.1)) (ap (λ x. x.readers) d.2)
 tidy_reports c s z report w (outcome.Refused NoSuchWorker) tidy d = same c s.readers z.readers tidy (ap (λ x. x.readers) d.1)

@@ -15,8 +15,8 @@ use Rattle.fib_model.specs.declared.orders.Order.{Order}
 use Rattle.fib_model.specs.declared.orders.Order.TheVariants as order
 use Rattle.fib_model.specs.declared.orders.Outcome.{Outcome}
 use Rattle.fib_model.specs.declared.orders.Outcome.TheVariants as outcome
-use Rattle.fib_model.specs.declared.orders.Report.{Report}
-use Rattle.fib_model.specs.declared.orders.Report.TheVariants as report
+use Rattle.fib_model.specs.declared.orders.ReaderReport.{ReaderReport}
+use Rattle.fib_model.specs.declared.orders.ReaderReport.TheVariants as report
 use Rattle.fib_model.specs.declared.event.Event.{Event}
 use Rattle.fib_model.specs.State.{State, IsExhausted, HasTokens}
 use Rattle.fib_model.specs.Outcomes.{LacksGroup, TakesGroup, HoldsFront, IsNew, Adds, Shrinks, Deletes, Flushes, Frees, MayReport, refusal_of, Reports, Does}
@@ -211,18 +211,18 @@ one_reclaim c s z z' max r r' a b =
 -- ---- reports
 
 -- taken, of no worker, or refused
-abbrev IsReported : Config → Book → Report → ℕ → Outcome → Book → Type 0
+abbrev IsReported : Config → Book → ReaderReport → ℕ → Outcome → Book → Type 0
 IsReported c s report w o z = ((w < c.workers) × MayReport (by_intervals c) s report w × (o ≡ outcome.Told) × (z ≡ record s { readers = (by_intervals c).told report w s.readers }))
     ⊎ ((c.workers ≤ w) × (o ≡ outcome.Refused NoSuchWorker) × (z ≡ s))
     ⊎ ((w < c.workers) × (MayReport (by_intervals c) s report w → ⊥) × (o ≡ outcome.Refused (refusal_of report)) × (z ≡ s))
 
-reported : (c : Config) (s z : Book) (report : Report) (w : ℕ) (o : Outcome) → Reports (by_intervals c) c s report w o z → IsReported c s report w o z
+reported : (c : Config) (s z : Book) (report : ReaderReport) (w : ℕ) (o : Outcome) → Reports (by_intervals c) c s report w o z → IsReported c s report w o z
 reported c s z report w outcome.Told d = inl (d.0, d.1, refl, d.2)
 reported c s z report w (outcome.Refused NoSuchWorker) d = inr (inl (d.0, refl, d.1))
 reported c s z report w (outcome.Refused refusal) d = inr (inr (d.0, d.1, ap outcome.Refused d.2, d.3))
 reported c s z report w other d = absurd d
 
-one_report : (c : Config) (s z z' : Book) (report : Report) (w : ℕ) (o o' : Outcome) → IsReported c s report w o z → IsReported c s report w o' z' → (o ≡ o') × (z ≡ z')
+one_report : (c : Config) (s z z' : Book) (report : ReaderReport) (w : ℕ) (o o' : Outcome) → IsReported c s report w o z → IsReported c s report w o' z' → (o ≡ o') × (z ≡ z')
 one_report c s z z' report w o o' (inl a) (inl b) = (a.2 ∙ sym b.2, a.3 ∙ sym b.3)
 one_report c s z z' report w o o' (inl a) (inr (inl b)) = let low = a.0 in let high = b.0 in absurd (omega (arith, low, high))
 one_report c s z z' report w o o' (inl a) (inr (inr b)) = absurd (b.1 a.1)

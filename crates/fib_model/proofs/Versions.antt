@@ -9,8 +9,8 @@ use Rattle.fib_model.specs.declared.orders.Order.{Order}
 use Rattle.fib_model.specs.declared.orders.Order.TheVariants as order
 use Rattle.fib_model.specs.declared.orders.Outcome.{Outcome}
 use Rattle.fib_model.specs.declared.orders.Outcome.TheVariants as outcome
-use Rattle.fib_model.specs.declared.orders.Report.{Report}
-use Rattle.fib_model.specs.declared.orders.Report.TheVariants as report
+use Rattle.fib_model.specs.declared.orders.ReaderReport.{ReaderReport}
+use Rattle.fib_model.specs.declared.orders.ReaderReport.TheVariants as report
 use Rattle.fib_model.specs.State.{State, Keeping}
 use Rattle.fib_model.specs.Outcomes.{Does, Reports}
 use Rattle.fib_model.specs.Counting.{by_counters}
@@ -27,7 +27,7 @@ stays s z H at e = (ap (λ x. x.rules) e ∙ at.0, ap (λ x. x.begun) e ∙ at.1
 one_more : (n m l : ℕ) → n ≡ m + 1 → m ≡ l → n ≡ suc l
 one_more n m l e f = omega arith
 
-reports : {X : Type 0} (k : Keeping X) (c : Config) (s z : State X) (H : List RuleMap) (report : Report) (w : ℕ) (out : Outcome) → IsAt s H → Reports k c s report w out z → IsAt z H
+reports : {X : Type 0} (k : Keeping X) (c : Config) (s z : State X) (H : List RuleMap) (report : ReaderReport) (w : ℕ) (out : Outcome) → IsAt s H → Reports k c s report w out z → IsAt z H
 reports k c s z H report w outcome.Told at d = (ap (λ x. x.rules) d.2 ∙ at.0, ap (λ x. x.begun) d.2 ∙ at.1)
 reports k c s z H report w (outcome.Refused NoSuchWorker) at d = stays s z H at d.1
 reports k c s z H report w (outcome.Refused refusal) at d = stays s z H at d.3

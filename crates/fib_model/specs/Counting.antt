@@ -7,12 +7,12 @@ use Rattle.std.specs.FinMap.{empty}
 use Rattle.qsbr.specs.Counters.{IsOnline, IsFirstHolding, Registry}
 use Rattle.lpm_limits.specs.declared.busy.Busy.{Busy}
 use Rattle.lpm_limits.specs.declared.config.Config.{Config}
-use Rattle.fib_model.specs.declared.orders.Report.{Report}
-use Rattle.fib_model.specs.declared.orders.Report.TheVariants.{Online, Offline, Quiescent}
+use Rattle.fib_model.specs.declared.orders.ReaderReport.{ReaderReport}
+use Rattle.fib_model.specs.declared.orders.ReaderReport.TheVariants.{Online, Offline, Quiescent}
 use Rattle.fib_model.specs.State.{State, Transitions, Keeping, looks}
 
 -- the counter after a report
-abbrev pub counter_of : Report → ℕ → ℕ
+abbrev pub counter_of : ReaderReport → ℕ → ℕ
 counter_of Online token = token
 counter_of Offline token = 0
 counter_of Quiescent token = token

@@ -19,8 +19,8 @@ use Rattle.fib_model.specs.declared.orders.Order.{Order}
 use Rattle.fib_model.specs.declared.orders.Order.TheVariants as order
 use Rattle.fib_model.specs.declared.orders.Outcome.{Outcome}
 use Rattle.fib_model.specs.declared.orders.Outcome.TheVariants as outcome
-use Rattle.fib_model.specs.declared.orders.Report.{Report}
-use Rattle.fib_model.specs.declared.orders.Report.TheVariants.{Online, Offline, Quiescent}
+use Rattle.fib_model.specs.declared.orders.ReaderReport.{ReaderReport}
+use Rattle.fib_model.specs.declared.orders.ReaderReport.TheVariants.{Online, Offline, Quiescent}
 use Rattle.fib_model.specs.State.{State, Transitions, Keeping, IsExhausted, HasTokens, Reclaims, Unlinks}
 
 -- the number of deep blocks, each of which has a group
@@ -115,19 +115,19 @@ Frees t s max r z = Reclaims t s.readers max s.limbo r.freed r.stopped z.limbo z
     × (z ≡ record s { readers = z.readers; limbo = z.limbo })
 
 -- the report may be made by this worker
-abbrev pub MayReport : {X : Type 0} → Keeping X → State X → Report → ℕ → Type 0
+abbrev pub MayReport : {X : Type 0} → Keeping X → State X → ReaderReport → ℕ → Type 0
 MayReport k s Online w = ¬ k.is_online s.readers w
 MayReport k s Offline w = k.is_online s.readers w
 MayReport k s Quiescent w = k.is_online s.readers w
 
 -- how a report that may not be made is refused
-abbrev pub refusal_of : Report → Refusal
+abbrev pub refusal_of : ReaderReport → Refusal
 refusal_of Online = AlreadyOnline
 refusal_of Offline = NotOnline
 refusal_of Quiescent = NotOnline
 
 -- a report, or its refusal; the number of the worker is tested first
-abbrev pub Reports : {X : Type 0} → Keeping X → Config → State X → Report → ℕ → Outcome → State X
+abbrev pub Reports : {X : Type 0} → Keeping X → Config → State X → ReaderReport → ℕ → Outcome → State X
     → Type 0
 Reports k c s report w outcome.Told z = (w < c.workers) × MayReport k s report w
     × (z ≡ record s { readers = k.told report w s.readers })

@@ -4,7 +4,7 @@ use Rattle.std.specs.Prelude.{ℕ, ◌≡◌, ◌+◌, ◌^◌, ◌<◌, ◌≤�
 use Rattle.lpm_limits.specs.declared.busy.Busy.{Busy}
 use Rattle.lpm_limits.specs.declared.config.Config.{Config}
 use Rattle.lpm_rules.specs.RuleMap.{RuleMap}
-use Rattle.fib_model.specs.declared.orders.Report.{Report}
+use Rattle.fib_model.specs.declared.orders.ReaderReport.{ReaderReport}
 use Rattle.defer_queue.specs.Reclaims as queue
 
 -- the rules, what the readers reported (as an X), the unlinkings that wait, from the oldest to the
@@ -32,7 +32,7 @@ pub record Keeping (X : Type 0) : Type 1 where
   pub changes : Transitions X
   -- whether the worker is online, and what is kept after its report
   pub is_online : X → ℕ → Type 0
-  pub told : Report → ℕ → X → X
+  pub told : ReaderReport → ℕ → X → X
 
 -- a check that only looks, by who is the first worker that holds an unlinking: it tells that
 -- worker, passes where there is none, and leaves what is kept

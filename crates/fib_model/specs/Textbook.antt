@@ -7,9 +7,9 @@ use Rattle.fib_model.specs.declared.event.Event.TheVariants.{Online, Offline, Qu
 use Rattle.std.specs.FinMap.{empty}
 use Rattle.lpm_limits.specs.declared.busy.Busy.{Busy}
 use Rattle.lpm_limits.specs.declared.config.Config.{Config}
-use Rattle.fib_model.specs.declared.orders.Report.{Report}
+use Rattle.fib_model.specs.declared.orders.ReaderReport.{ReaderReport}
 use Rattle.fib_model.specs.State.{State, Transitions, Keeping, looks}
-use Rattle.fib_model.specs.declared.orders.Report.TheVariants as report
+use Rattle.fib_model.specs.declared.orders.ReaderReport.TheVariants as report
 
 -- Which whole reports begin and end a reader interval, and how many unlinkings there were (DPDK
 -- Programmer's Guide, "RCU Library": a reader comes online, reports quiescent states and goes
@@ -54,7 +54,7 @@ pub record IsFirstHolder (token : ℕ) (events : List Event) (place : ℕ) (busy
   pub counter : (start : ℕ) → IsRunningSince by_reports events busy.worker start
       → busy.counter ≡ token + unlinkings_before events start
 
-abbrev pub event_of : Report → ℕ → Event
+abbrev pub event_of : ReaderReport → ℕ → Event
 event_of report.Online w = Online w
 event_of report.Offline w = Offline w
 event_of report.Quiescent w = Quiescent w

@@ -16,6 +16,6 @@ mod plain;
 mod waiting;
 
 pub use event::Event;
-pub use orders::{Order, Outcome, Report};
+pub use orders::{Order, Outcome, ReaderReport};
 pub use outcomes::expected;
 pub use plain::Account;

@@ -9,7 +9,7 @@ use lpm_rules::Put;
 
 /// What a worker reports.
 #[derive(Clone, Copy, Debug, PartialEq, Eq)]
-pub enum Report {
+pub enum ReaderReport {
     /// It begins to look up.
     Online,
     /// It has ended all its lookups.

@@ -6,7 +6,7 @@ ghost use Rattle.lpm_bits.specs.Widths.{IsShape};
 ghost use Rattle.lpm_limits.specs.Limits.{IsConfig};
 
 use crate::waiting::Waiting;
-use crate::{Order, Outcome, Report};
+use crate::{Order, Outcome, ReaderReport};
 use lpm_bits::{Hop, Prefix, Shape};
 use lpm_limits::{Config, Refusal};
 use lpm_rules::{Put, Rules};
@@ -256,9 +256,11 @@ impl<const FIRST: u32, const SECOND: u32> Plain<FIRST, SECOND> {
                 Err(refusal) => Ok(Outcome::Refused(refusal)),
             },
             Order::Reclaim(max) => Ok(Outcome::Reclaimed(self.waiting.reclaim(config, *max))),
-            Order::Online(worker) => self.waiting.report(config, Report::Online, *worker),
-            Order::Offline(worker) => self.waiting.report(config, Report::Offline, *worker),
-            Order::Quiescent(worker) => self.waiting.report(config, Report::Quiescent, *worker),
+            Order::Online(worker) => self.waiting.report(config, ReaderReport::Online, *worker),
+            Order::Offline(worker) => self.waiting.report(config, ReaderReport::Offline, *worker),
+            Order::Quiescent(worker) => self
+                .waiting
+                .report(config, ReaderReport::Quiescent, *worker),
         }
     }
 }

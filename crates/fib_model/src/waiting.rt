@@ -6,7 +6,7 @@ ghost use Rattle.fib_model.specs.Outcomes as outcomes;
 ghost use Rattle.fib_model.specs.Textbook as book;
 
 use crate::intervals::{running, token_at};
-use crate::{Event, Outcome, Report};
+use crate::{Event, Outcome, ReaderReport};
 use defer_queue::Reclaimed;
 use lpm_limits::{Busy, Config, Refusal};
 use std::alloc::{AllocError, Global};
@@ -199,7 +199,7 @@ impl Waiting {
     }
 
     /// Whether the worker may report this.
-    fn may_report(&self, config: &Config, report: Report, worker: usize) -> bool
+    fn may_report(&self, config: &Config, report: ReaderReport, worker: usize) -> bool
         ensures yes { IsTrue result → (rules : RuleMap) (begun : ℕ)
             → MayReport (by_intervals config.now) (state_with rules begun self.now) report worker }
         ensures no { IsFalse result → (rules : RuleMap) (begun : ℕ)
@@ -207,8 +207,8 @@ impl Waiting {
     {
         let is_online = running(&self.events, worker).is_some();
         match report {
-            Report::Online => !is_online,
-            Report::Offline | Report::Quiescent => is_online,
+            ReaderReport::Online => !is_online,
+            ReaderReport::Offline | ReaderReport::Quiescent => is_online,
         }
     }
 
@@ -216,7 +216,7 @@ impl Waiting {
     pub(crate) fn report(
         &mut self,
         config: &Config,
-        report: Report,
+        report: ReaderReport,
         worker: u32,
     ) -> Result<Outcome, AllocError>
         requires sound { IsSound config.now self.old }
@@ -238,22 +238,22 @@ impl Waiting {
 }
 
 /// How a report that may not be made is refused.
-fn refusal_of(report: Report) -> Refusal
+fn refusal_of(report: ReaderReport) -> Refusal
     ensures { result ≡ outcomes.refusal_of report }
 {
     match report {
-        Report::Online => Refusal::AlreadyOnline,
-        Report::Offline | Report::Quiescent => Refusal::NotOnline,
+        ReaderReport::Online => Refusal::AlreadyOnline,
+        ReaderReport::Offline | ReaderReport::Quiescent => Refusal::NotOnline,
     }
 }
 
 /// The report as an event.
-fn event_of(report: Report, worker: usize) -> Event
+fn event_of(report: ReaderReport, worker: usize) -> Event
     ensures { result ≡ book.event_of report worker }
 {
     match report {
-        Report::Online => Event::Online(worker),
-        Report::Offline => Event::Offline(worker),
-        Report::Quiescent => Event::Quiescent(worker),
+        ReaderReport::Online => Event::Online(worker),
+        ReaderReport::Offline => Event::Offline(worker),
+        ReaderReport::Quiescent => Event::Quiescent(worker),
     }
 }

@@ -7,7 +7,7 @@ use Rattle.lpm_rules.specs.declared.Change.{Change}
 use Rattle.lpm_trace.specs.declared.kind.Actor.{Actor}
 use Rattle.lpm_trace.specs.declared.kind.Deed.{Deed}
 use Rattle.lpm_trace.specs.declared.step.WriterStep.{WriterStep}
-use Rattle.lpm_trace.specs.Trace.{writes, worker_of, IsTrace, worker_by_step, Seen as Finished}
+use Rattle.lpm_trace.specs.Trace.{writes, worker_of, IsTrace, worker_by_step, FinishedLookup}
 use Rattle.interleave.specs.World.{HasEnded as ActorHasEnded, IsScheduled, writer_items, IsInitial, IsPlayedOut, WorldDid, Reaches, scripts_and_schedule, WorldDoes}
 use Rattle.interleave.specs.View.{script_at, WorldView}
 use Rattle.lpm_writer.specs.Resting.{blank_state, IsResting}
@@ -194,15 +194,15 @@ module _ (f s : ℕ) where
 
 -- What a run shows of a worker's lookups: those that it has finished, and no others.
 
-mine : (k : ℕ) (xs : List Finished) → seen_of k (map (seen_by k) xs) ≡ map (seen_by k) xs
+mine : (k : ℕ) (xs : List FinishedLookup) → seen_of k (map (seen_by k) xs) ≡ map (seen_by k) xs
 mine k [] = refl
 mine k (x ∷ xs) = rw (eq-eqb k k refl) (ap (λ ys. seen_by k x ∷ ys) (mine k xs))
 
-others : (k j : ℕ) → eqb k j ≡ false → (xs : List Finished) → seen_of k (map (seen_by j) xs) ≡ []
+others : (k j : ℕ) → eqb k j ≡ false → (xs : List FinishedLookup) → seen_of k (map (seen_by j) xs) ≡ []
 others k j not [] = refl
 others k j not (x ∷ xs) = rw not (others k j not xs)
 
-map_reverse : (j : ℕ) (xs : List Finished) → reverse (map (seen_by j) xs) ≡ map (seen_by j) (reverse xs)
+map_reverse : (j : ℕ) (xs : List FinishedLookup) → reverse (map (seen_by j) xs) ≡ map (seen_by j) (reverse xs)
 map_reverse j [] = refl
 map_reverse j (x ∷ xs) =
     reverse-append (seen_by j x ∷ []) (map (seen_by j) xs)

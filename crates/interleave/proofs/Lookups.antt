@@ -3,7 +3,7 @@ use Rattle.std.proofs.Common.{arith, ◌≡◌, ℕ, zero, suc, ◌+◌, ◌<◌
 use Rattle.std.proofs.Math.Seq.{split_at}
 use Rattle.std.proofs.lemmas.List.{take_more, append-nil, map-append, reverse-append, set_at}
 use Rattle.lpm_cells.specs.Words.{entry_in, hop_in, Words}
-use Rattle.lpm_trace.specs.Trace.{AreBegun, AreAnswered, Seen, Worker, worker_by_step, with_answers, Probe as TraceProbe, LookingUp, read_first, first_read, second_read, IsNextFirst, IsNextSecond}
+use Rattle.lpm_trace.specs.Trace.{AreBegun, AreAnswered, FinishedLookup, Worker, worker_by_step, with_answers, Probe as TraceProbe, LookingUp, read_first, first_read, second_read, IsNextFirst, IsNextSecond}
 use Rattle.lpm_trace.specs.States.{begun_at, InitialState, TableState}
 use Rattle.lpm_trace.specs.declared.step.WorkerStep.{WorkerStep}
 use Rattle.interleave.specs.declared.seen.Seen.{Seen as Noted}
@@ -83,15 +83,15 @@ grouped_at xs i a g f d p l is e h = record {
 -- ---- the answers of a lookup that ends
 
 -- they come after those before
-answers_after : (lo hi : ℕ) (ps : List TraceProbe) (before : List Seen) → with_answers lo hi ps before ≡ with_answers lo hi ps [] ++ before
+answers_after : (lo hi : ℕ) (ps : List TraceProbe) (before : List FinishedLookup) → with_answers lo hi ps before ≡ with_answers lo hi ps [] ++ before
 answers_after lo hi [] before = refl
 answers_after lo hi (T.Answered a x f l ∷ ps) before =
-    let s : Seen = record { addr = a; hop = x; first = f; last = l; lo = lo; hi = hi } in
-    answers_after lo hi ps (s ∷ before) ∙ sym (append_assoc (with_answers lo hi ps []) (s ∷ []) before) ∙ ap (λ (xs : List Seen). xs ++ before) (sym (answers_after lo hi ps (s ∷ [])))
+    let s : FinishedLookup = record { addr = a; hop = x; first = f; last = l; lo = lo; hi = hi } in
+    answers_after lo hi ps (s ∷ before) ∙ sym (append_assoc (with_answers lo hi ps []) (s ∷ []) before) ∙ ap (λ (xs : List FinishedLookup). xs ++ before) (sym (answers_after lo hi ps (s ∷ [])))
 answers_after lo hi (p ∷ ps) before = answers_after lo hi ps before
 
 -- of more addresses
-answers_push : (lo hi : ℕ) (ps qs : List TraceProbe) (before : List Seen) → with_answers lo hi (ps ++ qs) before ≡ with_answers lo hi qs (with_answers lo hi ps before)
+answers_push : (lo hi : ℕ) (ps qs : List TraceProbe) (before : List FinishedLookup) → with_answers lo hi (ps ++ qs) before ≡ with_answers lo hi qs (with_answers lo hi ps before)
 answers_push lo hi [] qs before = refl
 answers_push lo hi (T.Answered a x f l ∷ ps) qs before = answers_push lo hi ps qs _
 answers_push lo hi (p ∷ ps) qs before = answers_push lo hi ps qs before
@@ -104,7 +104,7 @@ noted_push : (k lo hi : ℕ) (xs : List Probe) (p : Probe) → noted k lo hi (xs
 noted_push k lo hi xs p =
     let split : with_answers lo hi (probes_of (xs ++ p ∷ [])) [] ≡ with_answers lo hi (probes_of (p ∷ [])) [] ++ with_answers lo hi (probes_of xs) [] =
     ap (λ (ps : List TraceProbe). with_answers lo hi ps []) (map-append probe_of xs (p ∷ [])) ∙ answers_push lo hi (probes_of xs) (probes_of (p ∷ [])) [] ∙ answers_after lo hi (probes_of (p ∷ [])) (with_answers lo hi (probes_of xs) []) in
-    ap (λ (ss : List Seen). reverse (map (seen_by k) ss)) split
+    ap (λ (ss : List FinishedLookup). reverse (map (seen_by k) ss)) split
     ∙ ap reverse (map-append (seen_by k) (with_answers lo hi (probes_of (p ∷ [])) []) (with_answers lo hi (probes_of xs) []))
     ∙ reverse-append (map (seen_by k) (with_answers lo hi (probes_of (p ∷ [])) [])) (map (seen_by k) (with_answers lo hi (probes_of xs) []))
 

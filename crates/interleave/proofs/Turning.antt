@@ -15,7 +15,7 @@ use Rattle.lpm_trace.specs.declared.step.TraceStep.{TraceStep}
 use Rattle.lpm_trace.specs.declared.step.TraceStep.TheVariants.{Worker as ByWorker, Writer}
 use Rattle.lpm_trace.specs.States.{InitialState, TableState, state_after, begun_at}
 use Rattle.lpm_trace.specs.declared.step.WorkerStep.TheVariants.{LoadOnline, LoadQuiescent, BeginLookup, LoadFirst, LoadSecond, EndLookup, MeetWriter}
-use Rattle.lpm_trace.specs.Trace.{Worker, Probe, Unread, InGroup, Answered, Seen as Finished, with_answers, worker_by_step, MayRead, after, MayCome, writes, worker_of, IsNextFirst, IsNextSecond, AreBegun, AreAnswered, IsBetweenDeeds}
+use Rattle.lpm_trace.specs.Trace.{Worker, Probe, Unread, InGroup, Answered, FinishedLookup, with_answers, worker_by_step, MayRead, after, MayCome, writes, worker_of, IsNextFirst, IsNextSecond, AreBegun, AreAnswered, IsBetweenDeeds}
 use Rattle.lpm_trace.proofs.Traces.{tables_of}
 use Rattle.interleave.specs.declared.seen.Seen.{Seen}
 use Rattle.interleave.specs.declared.worker.Worker.{Worker as Machine}
@@ -174,7 +174,7 @@ stands first second v c whole trace world k m other script inside is same =
     (subst (λ x. IsAt first second (length c.words.seconds) here.0 x (worker_of k trace) (steps_by k trace)) (sym same) here.2))
 
 -- a step finishes at most one lookup for each address
-answers_few : (lo hi : ℕ) (ps : List Probe) (xs : List Finished) → length (with_answers lo hi ps xs) ≤ length ps + length xs
+answers_few : (lo hi : ℕ) (ps : List Probe) (xs : List FinishedLookup) → length (with_answers lo hi ps xs) ≤ length ps + length xs
 answers_few lo hi [] xs = omega arith
 answers_few lo hi (Answered a h f l ∷ ps) xs = omega (arith, answers_few lo hi ps (record { addr = a; hop = h; first = f; last = l; lo = lo; hi = hi } ∷ xs))
 answers_few lo hi (p ∷ ps) xs = omega (arith, answers_few lo hi ps xs)

@@ -7,7 +7,7 @@ use Rattle.lpm_trace.specs.declared.kind.Step.{Step}
 use Rattle.lpm_trace.specs.declared.step.WorkerStep.{WorkerStep}
 use Rattle.lpm_trace.specs.declared.step.WorkerStep.TheVariants.{LoadOnline, StoreOnline, LoadQuiescent, StoreQuiescent, StoreOffline, BeginLookup, LoadFirst, LoadSecond, EndLookup, MeetWriter}
 use Rattle.lpm_trace.specs.States.{InitialState, begun_at}
-use Rattle.lpm_trace.specs.Trace.{Worker, Probe, Unread, InGroup, Answered, Seen as Finished, with_answers, after, worker_of}
+use Rattle.lpm_trace.specs.Trace.{Worker, Probe, Unread, InGroup, Answered, FinishedLookup, with_answers, after, worker_of}
 use Rattle.interleave.specs.declared.seen.Seen.{Seen}
 use Rattle.std.specs.List.{filter}
 use Rattle.lpm_trace.specs.declared.step.WriterStep.{WriterStep}
@@ -52,12 +52,12 @@ shown_by c k r (EndLookup sequence) = step_of_worker k kind.LoadSequence 0 seque
 shown_by c k r (MeetWriter sequence) = step_of_worker k kind.LoadSequence 0 sequence
 
 -- the lookups that the step finishes, the newest first: those of the lookup that it ends
-abbrev pub finished_by : Worker → WorkerStep → List Finished
+abbrev pub finished_by : Worker → WorkerStep → List FinishedLookup
 finished_by r (EndLookup sequence) = with_answers r.lo (begun_at sequence) r.probes []
 finished_by r other = []
 
 -- a finished lookup of worker k as a run shows it
-abbrev pub seen_by : ℕ → Finished → Seen
+abbrev pub seen_by : ℕ → FinishedLookup → Seen
 seen_by k f = record {
   worker = k;
   addr = f.addr;

@@ -15,7 +15,7 @@ use Rattle.route_text.specs.declared.routes.Route.{Route}
 use Rattle.fib_model.specs.declared.orders.Order.{Order}
 use Rattle.route_text.specs.Files.{AreRoutes}
 use Rattle.route_text.specs.Updates.{AreUpdates}
-use Rattle.audit.specs.declared.report.Report.{Report}
+use Rattle.audit.specs.declared.report.TableCounts.{TableCounts}
 use Rattle.audit.specs.Report.{report_lines}
 use Rattle.lpm_files.specs.declared.failure.Failure.{Failure}
 use Rattle.lpm_files.specs.declared.failure.Failure.TheVariants.{CannotWrite}
@@ -25,7 +25,7 @@ use Rattle.lpm_commands.specs.Loading.{IsLoaded, EndsTable}
 use Rattle.lpm_commands.specs.Apply.{ComesOut, IsUpdated}
 
 -- the report has what the table counts
-pub record IsCountOf (fib : FibState) (r : Report) : Type 0 where
+pub record IsCountOf (fib : FibState) (r : TableCounts) : Type 0 where
   pub rules : r.rules ≡ len fib.table.rules
   pub versions : r.versions ≡ fib.table.begun
   pub in_use : r.in_use ≡ groups_in_use 24 8 fib.table.rules
@@ -35,7 +35,7 @@ pub record IsCountOf (fib : FibState) (r : Report) : Type 0 where
 
 -- what is reported after the log: the last version's rules and deep blocks, how many versions and
 -- how many unlinkings that wait, and the token number
-pub record IsReportOf (c : Config) (log : Log 24 8) (state : State (List Event)) (r : Report)
+pub record IsReportOf (c : Config) (log : Log 24 8) (state : State (List Event)) (r : TableCounts)
     : Type 0 where
   pub rules : r.rules ≡ len (last_of (history log))
   pub versions : r.versions ≡ length (history log)
@@ -49,7 +49,7 @@ pub record IsReportOf (c : Config) (log : Log 24 8) (state : State (List Event))
 pub record IsReportedAfter (c : Config) (x : State Registry) (orders : List (Order 24 8)) (z : FibState)
     (text : List ℕ) : Type 0 where
   pub came : List Outcome
-  pub report : Report
+  pub report : TableCounts
   pub limits : z.config ≡ c
   pub comes : ComesOut c x orders came z.table
   pub counts : IsCountOf z report
@@ -69,7 +69,7 @@ pub record IsReportText (c : Config) (routes updates : Option (List ℕ)) (text 
   pub came : List Outcome
   pub log : Log 24 8
   pub state : State (List Event)
-  pub report : Report
+  pub report : TableCounts
   pub are_routes : Reads AreRoutes routes list
   pub are_updates : Reads AreUpdates updates orders
   pub updated : IsUpdated c list orders came log state

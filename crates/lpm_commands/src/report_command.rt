@@ -7,7 +7,7 @@ ghost use Rattle.lpm_commands.specs.Report.{IsReportText, IsReportedAfter, IsRep
 
 use crate::loading::load;
 use crate::updating::update;
-use audit::{Report, report_text};
+use audit::{TableCounts, report_text};
 use fib::Fib;
 use lpm_files::{Failure, Files, Routes, Updates, put_text, read_list};
 use lpm_limits::Config;
@@ -100,11 +100,11 @@ fn text_after<'a>(
 }
 
 // What the table counts.
-fn report_of(table: &Fib<24, 8>) -> Report
+fn report_of(table: &Fib<24, 8>) -> TableCounts
     ensures { IsCountOf table.now result }
 {
     let counts = table.counts();
-    Report {
+    TableCounts {
         rules: table.rules(),
         versions: table.versions(),
         in_use: counts.in_use,

@@ -13,7 +13,7 @@ ghost use Rattle.lpm_commands.specs.Storm.{EndsAfter, EndsBy, EndsOver, EndsRunn
 
 use crate::loading::{Running, open_for_changes};
 use crate::ordering::rules_of_routes;
-use audit::{Report, StormReport, storm_text};
+use audit::{StormReport, TableCounts, storm_text};
 use bulk::Gate;
 use lpm_files::{Addresses, Failure, Files, Updates, put_text, read_list, read_routes_on};
 use lpm_limits::{Config, Refusal};
@@ -252,7 +252,7 @@ fn with_versions(report: StormReport, versions: u64) -> StormReport
     ensures { result ≡ with_versions versions report }
 {
     StormReport {
-        table: Report {
+        table: TableCounts {
             versions: versions + report.table.versions,
             ..report.table
         },

@@ -5,7 +5,7 @@ use Rattle.std.specs.Bool.{⊤}
 use Rattle.lpm_cells.specs.declared.entry.Entry.TheVariants.{Group}
 use Rattle.lpm_cells.specs.Words.{entry_in, hop_in, last_entry}
 use Rattle.lpm_trace.specs.States.{InitialState, TableState, Status, Unused, Linked, Retired, addresses, answer, updates_done_in, updates_begun_in, first_entry, begun_at, done_at}
-use Rattle.lpm_trace.specs.Trace.{Worker, Phase, Offline, ComingOnline, Online, LookingUp, ReportingQuiescent, Probe, Unread, InGroup, Answered, Seen, IsRunning, read_first, first_read, second_read, with_answers, worker_by_step, IsNextFirst, IsNextSecond, AreAnswered, MayRead}
+use Rattle.lpm_trace.specs.Trace.{Worker, Phase, Offline, ComingOnline, Online, LookingUp, ReportingQuiescent, Probe, Unread, InGroup, Answered, FinishedLookup, IsRunning, read_first, first_read, second_read, with_answers, worker_by_step, IsNextFirst, IsNextSecond, AreAnswered, MayRead}
 use Rattle.lpm_trace.proofs.Versions.{Each, each_map}
 use Rattle.std.proofs.lemmas.List.Elements.{All-head, All-tail}
 use Rattle.lpm_cells.specs.declared.entry.Entry.{Entry}
@@ -77,7 +77,7 @@ ProbeOk c A w since lo phase (Unread a) = a < addresses c
 ProbeOk c A w since lo phase (InGroup a g f) = HalfOk c A w since lo phase a g f
 ProbeOk c A w since lo phase (Answered a h f l) = (a < addresses c) × (l ≤ w.clock) × ((t : ℕ) × (f ≤ t) × (t ≤ l) × A t a lo h)
 
-abbrev pub FinishedOk : InitialState → Told → (ℕ → ℕ → Type 0) → ℕ → Seen → Type 0
+abbrev pub FinishedOk : InitialState → Told → (ℕ → ℕ → Type 0) → ℕ → FinishedLookup → Type 0
 FinishedOk c A Hi clock s = (s.addr < addresses c) × (s.last ≤ clock) × ((t : ℕ) × (s.first ≤ t) × (t ≤ s.last) × A t s.addr s.lo s.hop × Hi t s.hi)
 
 pub record WorkerOk (c : InitialState) (A : Told) (Hi : ℕ → ℕ → Type 0) (w : TableState) (k : ℕ) (r : Worker) : Type 0 where
@@ -122,7 +122,7 @@ pub held_phase : (w : TableState) (k counter : ℕ) (p p' : Phase) → ((token :
 held_phase w k counter p p' f (Retired token) h = (h.0, f token h.1, h.2, h.3)
 held_phase w k counter p p' f s h = h
 
-pub finished_later : (c : InitialState) (A : Told) (Hi : ℕ → ℕ → Type 0) (n n' : ℕ) → n ≤ n' → (xs : List Seen) → Each (FinishedOk c A Hi n) xs → Each (FinishedOk c A Hi n') xs
+pub finished_later : (c : InitialState) (A : Told) (Hi : ℕ → ℕ → Type 0) (n n' : ℕ) → n ≤ n' → (xs : List FinishedLookup) → Each (FinishedOk c A Hi n) xs → Each (FinishedOk c A Hi n') xs
 finished_later c A Hi n n' le = each_map (FinishedOk c A Hi n) (FinishedOk c A Hi n') (λ s h. (h.0, omega (arith, le, h.1), h.2))
 
 pub probe_stays : (c : InitialState) (A : Told) (w w' : TableState) (since lo : ℕ) (phase : Phase) → w.clock ≤ w'.clock
@@ -183,7 +183,7 @@ module _ (c : InitialState) (A : Told) (Hi : ℕ → ℕ → Type 0) (w : TableS
   second_ok phase word (Answered a x f l ∷ rest) may h = (h.0, second_ok phase word rest may h.1)
 
   seen_ok : (below : (t : ℕ) → t ≤ w.clock → Hi t (updates_begun_in w)) (phase : Phase) (hi : ℕ) → hi ≡ updates_begun_in w → (ps : List Probe) → AreAnswered ps → Each (ProbeOk c A w since lo phase) ps
-      → (xs : List Seen) → Each (FinishedOk c A Hi w.clock) xs → Each (FinishedOk c A Hi w.clock) (with_answers lo hi ps xs)
+      → (xs : List FinishedLookup) → Each (FinishedOk c A Hi w.clock) xs → Each (FinishedOk c A Hi w.clock) (with_answers lo hi ps xs)
   seen_ok below phase hi is [] all h xs each = each
   seen_ok below phase hi is (Unread a ∷ rest) all h xs each = absurd all
   seen_ok below phase hi is (InGroup a g f ∷ rest) all h xs each = absurd all

@@ -11,7 +11,7 @@ use Rattle.lpm_trace.specs.declared.step.WorkerStep.TheVariants.{LoadOnline, Loa
 use Rattle.lpm_trace.specs.declared.step.TraceStep.{TraceStep}
 use Rattle.lpm_trace.specs.declared.step.TraceStep.TheVariants.{Writer, Worker as ByWorker}
 use Rattle.lpm_trace.specs.States.{InitialState, IsAnswer, begun_at, version, oldest, state_after, state_at}
-use Rattle.lpm_trace.specs.Trace.{Worker, Probe, Unread, InGroup, Answered, Seen, read_first, first_read, second_read, with_answers, worker_by_step, after, writes, worker_of}
+use Rattle.lpm_trace.specs.Trace.{Worker, Probe, Unread, InGroup, Answered, FinishedLookup, read_first, first_read, second_read, with_answers, worker_by_step, after, writes, worker_of}
 use Rattle.lpm_trace.specs.Laws.{IsLegalAtPlace, at_moment, rules_of_version, IsLegal, LookupsAreLegal, VersionsNeverFall}
 use Rattle.lpm_trace.proofs.Versions.{by_number, Each, each_all, version_ge, version_le}
 use Rattle.lpm_trace.proofs.Traces.{oldest_case, oldest_old, oldest_new, oldest_all, clock_length, tables_of, rising, all_right}
@@ -103,10 +103,10 @@ ProbesAgree steps (InGroup a g f ∷ ps) (InGroup b h n ∷ qs) = ((a ≡ b) × 
 ProbesAgree steps (Answered a x f l ∷ ps) (Answered b y m n ∷ qs) = ((a ≡ b) × (x ≡ y) × IsTime steps f m × IsTime steps l n × (m ≤ n)) × ProbesAgree steps ps qs
 ProbesAgree steps _ _ = ⊥
 
-abbrev SeenAgrees : List TraceStep → Seen → Seen → Type 0
+abbrev SeenAgrees : List TraceStep → FinishedLookup → FinishedLookup → Type 0
 SeenAgrees steps s n = (s.addr ≡ n.addr) × (s.hop ≡ n.hop) × (s.lo ≡ n.lo) × (s.hi ≡ n.hi) × IsTime steps s.first n.first × IsTime steps s.last n.last × (n.first ≤ n.last)
 
-abbrev AllSeenAgree : List TraceStep → List Seen → List Seen → Type 0
+abbrev AllSeenAgree : List TraceStep → List FinishedLookup → List FinishedLookup → Type 0
 AllSeenAgree steps [] [] = ⊤
 AllSeenAgree steps (x ∷ xs) (y ∷ ys) = SeenAgrees steps x y × AllSeenAgree steps xs ys
 AllSeenAgree steps _ _ = ⊥
@@ -129,7 +129,7 @@ module _ (s : TraceStep) (steps : List TraceStep) where
   probes_stay (Answered a x f l ∷ ps) (Answered b y m n ∷ qs) z = ((z.0.0, z.0.1, time_stays f m z.0.2, time_stays l n z.0.3, z.0.4), probes_stay ps qs z.1)
   probes_stay _ _ z = absurd z
 
-  seen_stay : (xs ys : List Seen) → AllSeenAgree steps xs ys → AllSeenAgree (s ∷ steps) xs ys
+  seen_stay : (xs ys : List FinishedLookup) → AllSeenAgree steps xs ys → AllSeenAgree (s ∷ steps) xs ys
   seen_stay [] [] z = tt
   seen_stay (x ∷ xs) (y ∷ ys) z = ((z.0.0, z.0.1, z.0.2, z.0.3, time_stays x.first y.first z.0.4, time_stays x.last y.last z.0.5, z.0.6), seen_stay xs ys z.1)
   seen_stay _ _ z = absurd z
@@ -156,7 +156,7 @@ module _ (steps : List TraceStep) (place number : ℕ) (time : IsTime steps plac
   second_agrees e (Answered a x f l ∷ ps) (Answered b y m n ∷ qs) z = (z.0, second_agrees e ps qs z.1)
   second_agrees e _ _ z = absurd z
 
-  answers_agree : (lo lo' hi : ℕ) → lo ≡ lo' → (ps qs : List Probe) → ProbesAgree steps ps qs → (xs ys : List Seen) → AllSeenAgree steps xs ys
+  answers_agree : (lo lo' hi : ℕ) → lo ≡ lo' → (ps qs : List Probe) → ProbesAgree steps ps qs → (xs ys : List FinishedLookup) → AllSeenAgree steps xs ys
       → AllSeenAgree steps (with_answers lo hi ps xs) (with_answers lo' hi qs ys)
   answers_agree lo lo' hi same [] [] z xs ys f = f
   answers_agree lo lo' hi same (Unread a ∷ ps) (Unread b ∷ qs) z xs ys f = answers_agree lo lo' hi same ps qs z.1 xs ys f
@@ -199,7 +199,7 @@ clocks_agree c (ByWorker j s ∷ steps) k =
 -- ---- the laws
 
 -- a place of the span of a lookup is that at a moment of its span
-span_moment : (steps : List TraceStep) (s n : Seen) → SeenAgrees steps s n → (place : ℕ) → s.first ≤ place → place ≤ s.last → IsMoment steps n.first n.last place
+span_moment : (steps : List TraceStep) (s n : FinishedLookup) → SeenAgrees steps s n → (place : ℕ) → s.first ≤ place → place ≤ s.last → IsMoment steps n.first n.last place
 span_moment steps s n same place from to =
     let d : ℕ = n.last - n.first in
     let whole : d + n.first ≡ n.last = omega (arith, same.6) in
@@ -209,7 +209,7 @@ span_moment steps s n same place from to =
 at_place : (c : InitialState) (steps : List TraceStep) (n place : ℕ) → count steps n ≡ place → state_at c (writes steps) place ≡ at_moment c steps n
 at_place c steps n place is = ap (state_at c (writes steps)) (sym is) ∙ ap (state_after c) (writes_oldest steps n)
 
-legal : (c : InitialState) (steps : List TraceStep) (s n : Seen) → SeenAgrees steps s n → IsLegalAtPlace c (writes steps) s → IsLegal c steps n
+legal : (c : InitialState) (steps : List TraceStep) (s n : FinishedLookup) → SeenAgrees steps s n → IsLegalAtPlace c (writes steps) s → IsLegal c steps n
 legal c steps s n same right =
     let m = span_moment steps s n same right.place right.from right.to in
     let at : state_at c (writes steps) right.place ≡ at_moment c steps m.moment = at_place c steps m.moment right.place m.is in
@@ -230,7 +230,7 @@ legal c steps s n same right =
       high = omega (arith, same.3, right.high, shown);
     }
 
-all_legal : (c : InitialState) (steps : List TraceStep) (xs ys : List Seen) → AllSeenAgree steps xs ys → Each (IsLegalAtPlace c (writes steps)) xs → Each (IsLegal c steps) ys
+all_legal : (c : InitialState) (steps : List TraceStep) (xs ys : List FinishedLookup) → AllSeenAgree steps xs ys → Each (IsLegalAtPlace c (writes steps)) xs → Each (IsLegal c steps) ys
 all_legal c steps [] [] z each = tt
 all_legal c steps (x ∷ xs) (y ∷ ys) z each = (legal c steps x y z.0 each.0, all_legal c steps xs ys z.1 each.1)
 all_legal c steps _ _ z each = absurd z

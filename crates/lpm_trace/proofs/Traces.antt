@@ -7,7 +7,7 @@ use Rattle.lpm_trace.specs.declared.step.WriterStep.TheVariants.{StoreFirst, Sto
 use Rattle.lpm_trace.specs.declared.step.TraceStep.{TraceStep}
 use Rattle.lpm_trace.specs.declared.step.TraceStep.TheVariants.{Writer, Worker as ByWorker}
 use Rattle.lpm_trace.specs.States.{InitialState, TableState, IsSettled, addresses, with_at, answer, IsAnswer, updates_done_in, updates_begun_in, version, rules_by, state_by_step, starting_state, oldest, state_after, state_at, MayWrite}
-use Rattle.lpm_trace.specs.Trace.{Worker, Probe, Unread, InGroup, Answered, Seen, initial_worker, worker_by_step, MayRead, IsRunning, MayCome, after, IsTrace, writes, own_steps, worker_by}
+use Rattle.lpm_trace.specs.Trace.{Worker, Probe, Unread, InGroup, Answered, FinishedLookup, initial_worker, worker_by_step, MayRead, IsRunning, MayCome, after, IsTrace, writes, own_steps, worker_by}
 use Rattle.lpm_trace.specs.Laws.{IsLegalAtPlace, OwnLookupsAreLegal, ArePlaced, OwnStepsArePlaced, VersionsNeverFallAtPlaces, PlacesNeverFall, TraceGrows}
 use Rattle.lpm_trace.proofs.Versions.{by_number, Each, each_map, with_at_case, each_all, Shows, keeps_shows, opening_shows, version_ge, version_le, rises, sequence_grows, history_stays, tick}
 use Rattle.lpm_trace.proofs.Good.{Told, half_by, ProbeOk, FinishedOk, WorkerOk, Good, worker_moves}
@@ -201,7 +201,7 @@ rising c (s ∷ ws) t u a le = oldest_case (λ l. version (state_at c (s ∷ ws)
     omega (arith, up, rises c (state_after c ws) s a)))
     (λ h. subst (λ w. version w a ≤ version (state_at c ws u) a) (sym (at_old c s ws t (omega (arith, le, h)))) (rising c ws t u a le))
 
-right : (c : InitialState) → IsSettled c → (steps : List TraceStep) → IsTrace c steps → (s : Seen) → FinishedOk c (told_by c (writes steps)) (hi_by c (writes steps)) (state_after c (writes steps)).clock s → IsLegalAtPlace c (writes steps) s
+right : (c : InitialState) → IsSettled c → (steps : List TraceStep) → IsTrace c steps → (s : FinishedLookup) → FinishedOk c (told_by c (writes steps)) (hi_by c (writes steps)) (state_after c (writes steps)).clock s → IsLegalAtPlace c (writes steps) s
 right c settled steps trace s h =
     let t = h.2.0 in
     let ws = writes steps in

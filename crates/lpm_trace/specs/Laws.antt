@@ -15,7 +15,7 @@ use Rattle.lpm_trace.specs.declared.step.TraceStep.{TraceStep}
 use Rattle.lpm_trace.specs.declared.step.TraceStep.TheVariants.{Writer, Worker as ByWorker}
 use Rattle.lpm_trace.specs.States.{InitialState, TableState, IsSettled, addresses, answer, IsAnswer, updates_done_in, updates_begun_in, version, lets_pass, oldest, state_after, state_at, first_entry}
 use Rattle.lpm_trace.specs.Writer.{token_after, passed_after}
-use Rattle.lpm_trace.specs.Trace.{Seen, MayRead, MayCome, after, IsTrace, writes, own_steps, worker_by, worker_of}
+use Rattle.lpm_trace.specs.Trace.{FinishedLookup, MayRead, MayCome, after, IsTrace, writes, own_steps, worker_by, worker_of}
 
 -- ---- answers
 
@@ -34,7 +34,7 @@ rules_of_version c steps k = (state_after c (writes steps)).history k
 -- a finished lookup is legal: its answer is that of the version which its address shows at a moment from
 -- the read of its first word to the read of its last one. That version stands at that moment, and it lies
 -- from `lo` to `hi`.
-pub record IsLegal (c : InitialState) (steps : List TraceStep) (seen : Seen) : Type 0 where
+pub record IsLegal (c : InitialState) (steps : List TraceStep) (seen : FinishedLookup) : Type 0 where
   pub moment : ℕ
   pub chosen : ℕ
   pub from : seen.first ≤ moment
@@ -140,7 +140,7 @@ VersionsNeverFall = (c : InitialState) (steps : List TraceStep) (a t u : ℕ) �
 -- a finished lookup is legal at a place: its answer is that of the version that its address shows when
 -- the writer has made so many steps, from the read of its first word to the read of its last one. That
 -- version lies from `lo` to `hi`. Here `first` and `last` are places.
-pub record IsLegalAtPlace (c : InitialState) (w_steps : List WriterStep) (seen : Seen) : Type 0 where
+pub record IsLegalAtPlace (c : InitialState) (w_steps : List WriterStep) (seen : FinishedLookup) : Type 0 where
   pub place : ℕ
   pub from : seen.first ≤ place
   pub to : place ≤ seen.last

@@ -34,7 +34,7 @@ pub data Probe : Type 0 where
 
 -- a finished lookup of one address: its answer, when its first and its last word was read, how many
 -- updates were done when it began, and how many were begun when it ended
-pub record Seen : Type 0 where
+pub record FinishedLookup : Type 0 where
   pub addr : ℕ
   pub hop : Option ℕ
   pub first : ℕ
@@ -50,7 +50,7 @@ pub record Worker : Type 0 where
   -- of the lookup that goes on: how many updates were done when it began, and its addresses
   pub lo : ℕ
   pub probes : List Probe
-  pub finished : List Seen
+  pub finished : List FinishedLookup
 
 -- a worker before its first step
 abbrev pub initial_worker : Worker
@@ -77,7 +77,7 @@ second_read now e (InGroup a g f ∷ rest) = Answered a (hop_in e) f now ∷ res
 second_read now e (Answered a h f l ∷ rest) = Answered a h f l ∷ second_read now e rest
 
 -- the answers of a lookup that ends
-abbrev pub with_answers : ℕ → ℕ → List Probe → List Seen → List Seen
+abbrev pub with_answers : ℕ → ℕ → List Probe → List FinishedLookup → List FinishedLookup
 with_answers lo hi [] seen = seen
 with_answers lo hi (Unread a ∷ rest) seen = with_answers lo hi rest seen
 with_answers lo hi (InGroup a g f ∷ rest) seen = with_answers lo hi rest seen

@@ -18,7 +18,7 @@ pub use control::{ControlState, add_rule, delete_rule, flush_rules, reclaim_grou
 pub use exhausted::Exhausted;
 pub use memory::Memory;
 pub use open_error::OpenError;
-pub use opening::open;
+pub use opening::open_memory;
 pub use plain_memory::PlainMemory;
 pub use pool::GroupPool;
 pub use synchronizing::{check_synchronize, start_synchronize};

@@ -50,7 +50,7 @@ impl<const FIRST: u32, const SECOND: u32> ControlState<FIRST, SECOND> {
 
 /// Opens a table without rules, with all workers offline. It refuses limits out of range, and ends
 /// with `Memory` where there is no room for the words, the groups or the workers.
-pub fn open<const FIRST: u32, const SECOND: u32>(
+pub fn open_memory<const FIRST: u32, const SECOND: u32>(
     alloc: Global,
     config: Config,
 ) -> Result<(ControlState<FIRST, SECOND>, PlainMemory<FIRST, SECOND>), OpenError>

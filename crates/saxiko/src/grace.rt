@@ -9,7 +9,7 @@ ghost use Rattle.shared_fib.specs.Passes.{IsBenchOf, IsPutBack};
 ghost use Rattle.shared_fib.specs.Running.{passed_of, steps_of, token_of};
 ghost use Rattle.saxiko.specs.Owners.{Registers};
 
-use crate::reader::register;
+use crate::reader::reader_of_worker;
 use crate::{Owner, Reader};
 use lpm_limits::{Busy, Refusal};
 use shared_fib::{Bench, SharedTable};
@@ -111,7 +111,7 @@ impl GracePeriod {
     pub fn register(&mut self, worker: usize) -> Result<Reader, Refusal>
         ensures { Registers self.old worker result self.new }
     {
-        register(&self.table, &mut self.bench, worker)
+        reader_of_worker(&self.table, &mut self.bench, worker)
     }
 
     /// Takes a reader back, as [`Owner::unregister`] does.

@@ -20,7 +20,7 @@ ghost use Rattle.shared_fib.specs.Running.{IsAtRest, by_steps, initial_writer, p
 ghost use Rattle.saxiko.specs.Owners.{Registers};
 
 use crate::Reader;
-use crate::reader::register;
+use crate::reader::reader_of_worker;
 use defer_queue::Reclaimed;
 use lpm_bits::{Hop, Prefix};
 use lpm_groups::Counts;
@@ -122,7 +122,7 @@ impl Owner {
     pub fn register(&mut self, worker: usize) -> Result<Reader, Refusal>
         ensures { Registers self.old worker result self.new }
     {
-        register(&self.table, &mut self.bench, worker)
+        reader_of_worker(&self.table, &mut self.bench, worker)
     }
 
     /// Takes a reader back, so that its number can be registered again. One that is online goes offline

@@ -187,7 +187,7 @@ impl Reader {
 }
 
 /// The reader of the worker of this number, out of the bench of the table.
-pub(crate) fn register(
+pub(crate) fn reader_of_worker(
     table: &Arc<SharedTable<24, 8>>,
     bench: &mut Bench,
     worker: usize,

@@ -68,7 +68,7 @@ impl Owner {
     /// Starts a grace period: from then on the table isn't changed, until a check has passed.
     ///
     /// `Exhausted` where fewer tokens than groups are left; nothing was written then.
-    pub(crate) fn start(&mut self) -> Result<(), Exhausted>
+    pub(crate) fn start_period(&mut self) -> Result<(), Exhausted>
         requires at_rest { self.old.waits ≡ false }
         ensures exhausted { IsErr result
             ↔ (2 ^ 62 < token_of self.old.writer + self.old.writer.config.groups) }
@@ -96,7 +96,7 @@ impl Owner {
 
     /// Checks the token once. Where no reader holds it the grace period is over. The error is the first reader that
     /// does: the grace period lasts.
-    pub(crate) fn check(&mut self) -> Result<(), Busy>
+    pub(crate) fn check_period(&mut self) -> Result<(), Busy>
         requires waits { self.old.waits ≡ true }
         ensures checks { Checks self.old.writer.identity.initial.workers
             (steps_of self.old.writer) (token_of self.old.writer) result
@@ -134,7 +134,7 @@ pub(crate) fn start(owner: &mut Owner) -> i32
     if owner.is_waiting() {
         return EALREADY;
     }
-    match owner.start() {
+    match owner.start_period() {
         Ok(()) => 0,
         Err(Exhausted) => EOVERFLOW,
     }
@@ -147,7 +147,7 @@ pub(crate) fn check(owner: &mut Owner, held: &mut SaxikoHeld) -> i32
     if !owner.is_waiting() {
         return EPERM;
     }
-    match owner.check() {
+    match owner.check_period() {
         Ok(()) => 0,
         Err(busy) => {
             *held = SaxikoHeld {

@@ -48,7 +48,7 @@ impl Owner {
     ///
     /// The refusals: `NoSuchWorker`, where the table has no such worker; `Taken`, where its reader is handed out and not
     /// given back yet; and `Memory`, where there are 2^63 readers.
-    pub(crate) fn register(&mut self, worker: usize) -> Result<Reader, Refusal>
+    pub(crate) fn register_reader(&mut self, worker: usize) -> Result<Reader, Refusal>
         ensures reader { IfOk result (IsPassOf self.old.writer.identity worker) }
         ensures registered { IfOk result (λ p. (slice_get self.old.bench worker ≡ Some (Some p))
             × (self.new.bench ≡ slice_set self.old.bench worker None)) }
@@ -67,7 +67,7 @@ impl Owner {
     }
 
     /// Takes a reader back, so that its number can be registered again. One that is online goes offline first.
-    pub(crate) fn unregister(&mut self, reader: Reader)
+    pub(crate) fn unregister_reader(&mut self, reader: Reader)
         requires own { reader.table ≡ self.old.writer.identity }
         ensures back { (p : PassState)
             × (self.new.bench ≡ slice_set self.old.bench reader.worker (Some p))

@@ -175,15 +175,19 @@ pub(crate) fn counts(owner: &mut Owner, counts: &mut SaxikoCounts) -> i32
 }
 
 /// The reader of this number. Where there is no memory for it, its number is free again.
-pub(crate) fn register(alloc: Global, owner: &mut Owner, number: usize) -> Result<Box<Reader>, i32>
+pub(crate) fn boxed_reader(
+    alloc: Global,
+    owner: &mut Owner,
+    number: usize,
+) -> Result<Box<Reader>, i32>
     ensures { MatchResult result (λ b. IsRegistered number owner.old b.value owner.new)
         (λ status. IsUnregistered number owner.old status owner.new) }
 {
-    match owner.register(number) {
+    match owner.register_reader(number) {
         Ok(reader) => match Box::new(alloc, reader) {
             Ok(boxed) => Ok(boxed),
             Err(failed) => {
-                owner.unregister(failed.value);
+                owner.unregister_reader(failed.value);
                 Err(ENOMEM)
             }
         },
@@ -194,11 +198,11 @@ pub(crate) fn register(alloc: Global, owner: &mut Owner, number: usize) -> Resul
 }
 
 /// Takes the reader back: it is offline then.
-pub(crate) fn unregister(owner: &mut Owner, reader: Reader) -> i32
+pub(crate) fn put_back(owner: &mut Owner, reader: Reader) -> i32
     requires own { reader.table ≡ owner.old.writer.identity }
     ensures { GivesBack reader owner.old result owner.new }
 {
-    owner.unregister(reader);
+    owner.unregister_reader(reader);
     0
 }
 

@@ -149,13 +149,13 @@ pub extern "C" fn saxiko_proved_reader_register(
 ) -> i32
     ensures { Registers number writer.old.kept reader.old.kept result writer.new.kept reader.new.kept }
 {
-    on_open!(alloc, writer, owner => register(alloc, &mut owner, reader, number))
+    on_open!(alloc, writer, owner => hand_out(alloc, &mut owner, reader, number))
 }
 
-fn register(alloc: Global, owner: &mut Owner, reader: &mut SaxikoReader, number: u32) -> i32
+fn hand_out(alloc: Global, owner: &mut Owner, reader: &mut SaxikoReader, number: u32) -> i32
     ensures { Registers number (Some owner.old) reader.old.kept result (Some owner.new) reader.new.kept }
 {
-    on_closed!(alloc, reader => running::register(alloc, owner, number as usize))
+    on_closed!(alloc, reader => running::boxed_reader(alloc, owner, number as usize))
 }
 
 /// Takes the reader back: it is offline then, its handle is closed, and its number is free. Both handles are
@@ -169,15 +169,15 @@ pub extern "C" fn saxiko_proved_reader_unregister(
     requires one_table { AreOfOneTable writer.old.kept reader.old.kept }
     ensures { Unregisters writer.old.kept reader.old.kept result writer.new.kept reader.new.kept }
 {
-    on_open!(alloc, writer, owner => unregister(alloc, &mut owner, reader))
+    on_open!(alloc, writer, owner => take_back(alloc, &mut owner, reader))
 }
 
-fn unregister(alloc: Global, owner: &mut Owner, reader: &mut SaxikoReader) -> i32
+fn take_back(alloc: Global, owner: &mut Owner, reader: &mut SaxikoReader) -> i32
     requires one_table { AreOfOneTable (Some owner.old) reader.old.kept }
     ensures { Unregisters (Some owner.old) reader.old.kept result (Some owner.new) reader.new.kept }
 {
     match take(alloc, reader) {
-        Some(open) => running::unregister(owner, Box::into_inner(open)),
+        Some(open) => running::put_back(owner, Box::into_inner(open)),
         None => EINVAL,
     }
 }

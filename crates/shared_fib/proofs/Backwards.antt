@@ -7,7 +7,7 @@ use Rattle.lpm_trace.specs.declared.step.WorkerStep.{WorkerStep}
 use Rattle.lpm_trace.specs.declared.step.WorkerStep.TheVariants.{BeginLookup, EndLookup}
 use Rattle.lpm_trace.specs.States.{InitialState, TableState, IsAnswer, updates_done_in, updates_begun_in, version, oldest, state_after, state_at}
 use Rattle.lpm_trace.specs.Writer.{IsWritten}
-use Rattle.lpm_trace.specs.Trace.{Seen}
+use Rattle.lpm_trace.specs.Trace.{FinishedLookup}
 use Rattle.lpm_trace.specs.Laws.{IsLegalAtPlace}
 use Rattle.lpm_trace.proofs.Traces.{oldest_all, at_now, history_at}
 use Rattle.lpm_trace.proofs.Promises.{versions_never_fall_at_places}
@@ -36,7 +36,7 @@ module _ (c : InitialState) (before after : List WriterStep) (later : IsLater be
       history_at c after place k (subst (λ (w : TableState). k ≤ updates_begun_in w) (sym same) stands)
       ∙ (ap (λ (w : TableState). w.history k) same ∙ sym (history_at c before place k stands))
 
-  pub of_version_still : (seen : Seen) (k : ℕ) → IsOfVersion c before seen k → IsOfVersion c after seen k
+  pub of_version_still : (seen : FinishedLookup) (k : ℕ) → IsOfVersion c before seen k → IsOfVersion c after seen k
   of_version_still seen k h =
       let low : h.place ≤ length before = omega (arith, h.to, h.within) in
       record {
@@ -60,10 +60,10 @@ versions_stay c before after k later begun_k =
 -- ---- finished lookups
 
 -- the version that the address shows at the place where its lookup is legal
-abbrev pub shown : (c : InitialState) (steps : List WriterStep) (seen : Seen) → IsLegalAtPlace c steps seen → ℕ
+abbrev pub shown : (c : InitialState) (steps : List WriterStep) (seen : FinishedLookup) → IsLegalAtPlace c steps seen → ℕ
 shown c steps seen h = version (state_at c steps h.place) seen.addr
 
-pub of_shown : (c : InitialState) (steps : List WriterStep) (seen : Seen) (h : IsLegalAtPlace c steps seen)
+pub of_shown : (c : InitialState) (steps : List WriterStep) (seen : FinishedLookup) (h : IsLegalAtPlace c steps seen)
     → IsOfVersion c steps seen (shown c steps seen h)
 of_shown c steps seen h =
     let stands = versions_never_fall_at_places c steps seen.addr h.place h.place (omega arith) in
@@ -102,7 +102,7 @@ at_place P xs i x here all =
     subst P (get_or_from_slice_get xs i x x here) (all i x (slice_get_within xs i x here))
 
 -- two legal lookups of one address, of which the earlier read its last word before the later read its first
-pub in_order : (c : InitialState) (steps : List WriterStep) (earlier later : Seen) → IsLegalAtPlace c steps earlier → IsLegalAtPlace c steps later
+pub in_order : (c : InitialState) (steps : List WriterStep) (earlier later : FinishedLookup) → IsLegalAtPlace c steps earlier → IsLegalAtPlace c steps later
     → earlier.last ≤ later.first → earlier.addr ≡ later.addr → AreInOrder c steps earlier later
 in_order c steps earlier later old new apart same =
     let rises = versions_never_fall_at_places c steps earlier.addr old.place new.place (omega (arith, old.to, apart, new.from)) in (

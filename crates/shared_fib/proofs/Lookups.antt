@@ -8,7 +8,7 @@ use Rattle.lpm_trace.specs.declared.step.WriterStep.{WriterStep}
 use Rattle.lpm_trace.specs.declared.step.WorkerStep.{WorkerStep}
 use Rattle.lpm_trace.specs.declared.step.WorkerStep.TheVariants.{BeginLookup, LoadFirst, LoadSecond, EndLookup}
 use Rattle.lpm_trace.specs.States.{InitialState, TableState, done_at, begun_at, oldest, state_at}
-use Rattle.lpm_trace.specs.Trace.{Seen, MayRead, read_first, second_read, with_answers, worker_by}
+use Rattle.lpm_trace.specs.Trace.{FinishedLookup, MayRead, read_first, second_read, with_answers, worker_by}
 use Rattle.lpm_trace.specs.Laws.{ArePlaced}
 use Rattle.lpm_trace.proofs.Traces.{at_now}
 use Rattle.shared_words.specs.Deeds.{AddressLookup, IsReadOn, loads_at, seen_of}
@@ -23,11 +23,11 @@ use Rattle.shared_fib.specs.Bursts.{LooksUpBurst}
 
 -- ---- what a lookup's loads finish
 
-module _ (lo hi addr word first : ℕ) (hop : Option ℕ) (old : List Seen) where
+module _ (lo hi addr word first : ℕ) (hop : Option ℕ) (old : List FinishedLookup) where
   abbrev found : Option (ℕ × ℕ) → AddressLookup
   found second = record { addr = addr; hop = hop; word = word; first = first; second = second }
 
-  abbrev finished : Option (ℕ × ℕ) → Option ℕ → List Seen
+  abbrev finished : Option (ℕ × ℕ) → Option ℕ → List FinishedLookup
   finished second h = record (seen_of lo hi (found second)) { hop = h } ∷ old
 
   one_load : (e : Entry) → IsReadOn e None hop

@@ -8,7 +8,7 @@ use Rattle.lpm_trace.specs.declared.step.WorkerStep.{WorkerStep}
 use Rattle.lpm_trace.specs.declared.step.WorkerStep.TheVariants.{BeginLookup, EndLookup}
 use Rattle.lpm_trace.specs.States.{InitialState, version, updates_done_in, updates_begun_in, oldest, state_after, state_at}
 use Rattle.lpm_trace.specs.Writer.{IsWritten}
-use Rattle.lpm_trace.specs.Trace.{Seen}
+use Rattle.lpm_trace.specs.Trace.{FinishedLookup}
 use Rattle.lpm_trace.specs.Laws.{IsLegalAtPlace}
 use Rattle.lpm_trace.proofs.Traces.{oldest_all}
 use Rattle.lpm_trace.proofs.Promises.{versions_never_fall_at_places}
@@ -109,7 +109,7 @@ makes_two on on' r t s s' p is table worker steps =
     )
 
 -- a legal lookup is that of a version
-pub of_version : (table : TableId) (o : InitialData) (w_steps : List WriterStep) (l : Seen) → IsWritten (initial_state_of o) w_steps
+pub of_version : (table : TableId) (o : InitialData) (w_steps : List WriterStep) (l : FinishedLookup) → IsWritten (initial_state_of o) w_steps
     → (h : IsLegalAtPlace (initial_state_of o) w_steps l)
     → IsOfVersion (record { words = table; initial = o }) w_steps l.addr l.hop h.place
     (version (state_at (initial_state_of o) w_steps h.place) l.addr)

@@ -10,7 +10,7 @@ use Rattle.lpm_trace.specs.declared.step.WriterStep.{WriterStep}
 use Rattle.lpm_trace.specs.declared.step.WorkerStep.{WorkerStep}
 use Rattle.lpm_trace.specs.declared.step.WorkerStep.TheVariants.{LoadOnline, StoreOnline, LoadQuiescent, StoreQuiescent, StoreOffline, BeginLookup, LoadFirst, LoadSecond, EndLookup, MeetWriter}
 use Rattle.lpm_trace.specs.States.{InitialState, TableState, begun_at, state_at}
-use Rattle.lpm_trace.specs.Trace.{Worker, Phase, Offline, ComingOnline, Online, LookingUp, ReportingQuiescent, Probe, Unread, InGroup, Answered, Seen, MayRead, IsBetweenDeeds, worker_by_step, read_first, first_read, second_read, with_answers, worker_by}
+use Rattle.lpm_trace.specs.Trace.{Worker, Phase, Offline, ComingOnline, Online, LookingUp, ReportingQuiescent, Probe, Unread, InGroup, Answered, FinishedLookup, MayRead, IsBetweenDeeds, worker_by_step, read_first, first_read, second_read, with_answers, worker_by}
 use Rattle.lpm_trace.specs.Laws.{ArePlaced, IsLegalAtPlace}
 use Rattle.shared_fib.specs.Running.{initial_state}
 use Rattle.shared_fib.specs.Laws.{IsFinishedSince, PassesNeverGoBack}
@@ -88,29 +88,29 @@ module _ (K : ℕ → Type 0) where
   read_seconds now e here (InGroup a g f ∷ rest) h = ((h.0, here), h.1)
   read_seconds now e here (Answered a hop f l ∷ rest) h = (h.0, read_seconds now e here rest h.1)
 
-  abbrev IsRead : Seen → Type 0
+  abbrev IsRead : FinishedLookup → Type 0
   IsRead seen = K seen.first × K seen.last
 
   -- these lookups are some that were finished before, and others whose words were read at such places
-  abbrev AreSince : List Seen → List Seen → Type 0
-  AreSince old now = (since : List Seen) × (now ≡ since ++ old) × All IsRead since
+  abbrev AreSince : List FinishedLookup → List FinishedLookup → Type 0
+  AreSince old now = (since : List FinishedLookup) × (now ≡ since ++ old) × All IsRead since
 
-  since_more : (x : Seen) (old now : List Seen) → IsRead x → AreSince old now → AreSince old (x ∷ now)
-  since_more x old now read h = (x ∷ h.0, ap (λ (xs : List Seen). x ∷ xs) h.1, All-cons IsRead x h.0 read h.2)
+  since_more : (x : FinishedLookup) (old now : List FinishedLookup) → IsRead x → AreSince old now → AreSince old (x ∷ now)
+  since_more x old now read h = (x ∷ h.0, ap (λ (xs : List FinishedLookup). x ∷ xs) h.1, All-cons IsRead x h.0 read h.2)
 
-  since_answers : (lo hi : ℕ) (old : List Seen) (probes : List Probe) (now : List Seen) → AreRead probes → AreSince old now
+  since_answers : (lo hi : ℕ) (old : List FinishedLookup) (probes : List Probe) (now : List FinishedLookup) → AreRead probes → AreSince old now
       → AreSince old (with_answers lo hi probes now)
   since_answers lo hi old [] now read h = h
   since_answers lo hi old (Unread a ∷ rest) now read h = since_answers lo hi old rest now read h
   since_answers lo hi old (InGroup a g f ∷ rest) now read h = since_answers lo hi old rest now read.1 h
   since_answers lo hi old (Answered a hop f l ∷ rest) now read h =
-      let x : Seen = record { addr = a; hop = hop; first = f; last = l; lo = lo; hi = hi } in
+      let x : FinishedLookup = record { addr = a; hop = hop; first = f; last = l; lo = lo; hi = hi } in
       since_answers lo hi old rest (x ∷ now) read.1 (since_more x old now read.0 h)
 
-  abbrev IsSince : List Seen → Worker → Type 0
+  abbrev IsSince : List FinishedLookup → Worker → Type 0
   IsSince old r = AreRead r.probes × AreSince old r.finished
 
-  since_step : (old : List Seen) (now : ℕ) (r : Worker) (s : WorkerStep) → K now → IsSince old r → IsSince old (worker_by_step now r s)
+  since_step : (old : List FinishedLookup) (now : ℕ) (r : Worker) (s : WorkerStep) → K now → IsSince old r → IsSince old (worker_by_step now r s)
   since_step old now r (BeginLookup addrs sequence) here h = (read_none addrs, h.1)
   since_step old now r (LoadFirst word) here h = (read_firsts now (entry_in word) here r.probes h.0, h.1)
   since_step old now r (LoadSecond word) here h = (read_seconds now (entry_in word) here r.probes h.0, h.1)
@@ -158,7 +158,7 @@ module _ (newer rest : List (WorkerStep × ℕ)) (t : WorkerStep × ℕ) (rising
 -- ---- one pass
 
 -- the earlier lookup read its last word before the later one read its first
-apart : (c : InitialState) (w_steps : List WriterStep) (newer older : List (WorkerStep × ℕ)) (earlier later : Seen)
+apart : (c : InitialState) (w_steps : List WriterStep) (newer older : List (WorkerStep × ℕ)) (earlier later : FinishedLookup)
     → Rising (newer ++ older) → ArePlaced c w_steps (newer ++ older) → IsFinishedSince newer older earlier later
     → earlier.last ≤ later.first
 apart c w_steps newer [] earlier later rising placed h = absurd (none-some earlier h.before.1)

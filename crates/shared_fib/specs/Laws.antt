@@ -4,7 +4,7 @@ use Rattle.std.specs.Prelude.{ℕ, ◌≡◌, ◌≤◌, ◌⊎◌, List, ◌++�
 use Rattle.lpm_trace.specs.declared.step.WriterStep.{WriterStep}
 use Rattle.lpm_trace.specs.declared.step.WorkerStep.{WorkerStep}
 use Rattle.lpm_trace.specs.States.{InitialState, IsAnswer, updates_done_in, updates_begun_in, state_after, state_at}
-use Rattle.lpm_trace.specs.Trace.{Seen, IsBetweenDeeds, worker_by}
+use Rattle.lpm_trace.specs.Trace.{FinishedLookup, IsBetweenDeeds, worker_by}
 use Rattle.lpm_trace.specs.Laws.{IsLegalAtPlace}
 use Rattle.shared_words.specs.Rule.{IsLater}
 use Rattle.shared_fib.specs.Running.{WriterState, IsAtRest, initial_state, steps_of}
@@ -20,7 +20,7 @@ StandsAt c w_steps place k =
 
 -- the lookup can be said to be of version k: its answer is that of the longest match in the rules of that
 -- version, which stood at a place of the lookup's span and lies from `lo` to `hi`
-pub record IsOfVersion (c : InitialState) (w_steps : List WriterStep) (seen : Seen) (k : ℕ) : Type 0 where
+pub record IsOfVersion (c : InitialState) (w_steps : List WriterStep) (seen : FinishedLookup) (k : ℕ) : Type 0 where
   pub place : ℕ
   pub from : seen.first ≤ place
   pub to : place ≤ seen.last
@@ -31,7 +31,7 @@ pub record IsOfVersion (c : InitialState) (w_steps : List WriterStep) (seen : Se
   pub high : k ≤ seen.hi
 
 -- versions can be chosen for two lookups so that the later one's isn't less
-abbrev pub AreInOrder : InitialState → List WriterStep → Seen → Seen → Type 0
+abbrev pub AreInOrder : InitialState → List WriterStep → FinishedLookup → FinishedLookup → Type 0
 AreInOrder c w_steps earlier later = (k : ℕ) × (l : ℕ) × (k ≤ l)
     × IsOfVersion c w_steps earlier k × IsOfVersion c w_steps later l
 
@@ -45,7 +45,7 @@ VersionsStay = (c : InitialState) (before after : List WriterStep) (k : ℕ) →
 -- two lookups of one address never go back, where the later one's words were loaded after all that was
 -- known of the writer's steps when the earlier one had ended
 abbrev pub LookupsNeverGoBack : Type 0
-LookupsNeverGoBack = (c : InitialState) (before after : List WriterStep) (earlier later : Seen)
+LookupsNeverGoBack = (c : InitialState) (before after : List WriterStep) (earlier later : FinishedLookup)
     → IsLegalAtPlace c before earlier → IsLegalAtPlace c after later
     → IsLater before after → length before ≤ later.first → earlier.addr ≡ later.addr
     → AreInOrder c after earlier later
@@ -54,16 +54,16 @@ LookupsNeverGoBack = (c : InitialState) (before after : List WriterStep) (earlie
 
 -- the earlier lookup was finished with the older of a worker's steps, after which the worker was neither in
 -- a report nor in a lookup; the later one was finished since
-pub record IsFinishedSince (newer older : List (WorkerStep × ℕ)) (earlier later : Seen) : Type 0 where
+pub record IsFinishedSince (newer older : List (WorkerStep × ℕ)) (earlier later : FinishedLookup) : Type 0 where
   pub rests : IsBetweenDeeds (worker_by older).phase
   pub before : (i : ℕ) × (slice_get (worker_by older).finished i ≡ Some earlier)
-  pub since : List Seen
+  pub since : List FinishedLookup
   pub split : (worker_by (newer ++ older)).finished ≡ since ++ (worker_by older).finished
   pub after : (i : ℕ) × (slice_get since i ≡ Some later)
 
 -- of two lookups of one address that a pass has finished, the later one's version can be chosen not less
 abbrev pub PassesNeverGoBack : Type 0
-PassesNeverGoBack = (p : PassState) (newer older : List (WorkerStep × ℕ)) (earlier later : Seen)
+PassesNeverGoBack = (p : PassState) (newer older : List (WorkerStep × ℕ)) (earlier later : FinishedLookup)
     → IsHistory p → p.steps ≡ newer ++ older → IsFinishedSince newer older earlier later
     → earlier.addr ≡ later.addr
     → AreInOrder (initial_state p.table) p.seen earlier later

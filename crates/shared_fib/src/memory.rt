@@ -80,13 +80,13 @@ impl<'a, const FIRST: u32, const SECOND: u32> Memory for SharedMemory<'a, FIRST,
     #[inline]
     fn open(&mut self, change: &RuleChange) {
         let number = self.seat.sequence(self.table) + 1;
-        self.seat.open_update(self.table, change, number);
+        self.seat.begin_update(self.table, change, number);
     }
 
     #[inline]
     fn close(&mut self) {
         let number = self.seat.sequence(self.table) + 1;
-        self.seat.close_update(self.table, number);
+        self.seat.end_update(self.table, number);
     }
 
     #[inline]

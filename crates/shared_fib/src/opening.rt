@@ -16,7 +16,7 @@ ghost use Rattle.shared_fib.specs.Loading.{IsLoaded};
 ghost use Rattle.shared_fib.specs.Passes.{IsFullBench};
 ghost use Rattle.shared_fib.specs.Running.{initial_data_of, initial_writer, initial_state};
 
-use crate::laying::pack_all;
+use crate::pack::pack_all;
 use crate::table::Words;
 use crate::{Bench, InitialTable, SharedTable, Writer};
 use defer_queue::DeferQueue;
@@ -168,7 +168,7 @@ pub fn open<const FIRST: u32, const SECOND: u32>(
     ensures bad_config { IfErr result
         (λ error. (error ≡ OpenError.BadConfig) ↔ (¬ IsConfig config)) }
 {
-    let (control, memory) = lpm_writer::open(alloc, config)?;
+    let (control, memory) = lpm_writer::open_memory(alloc, config)?;
     Ok(begin(alloc, control, memory)?)
 }
 

@@ -9,7 +9,7 @@ ghost use Rattle.shared_fib.specs.Running.{hop_or, steps_of};
 use crate::{SharedTable, Writer};
 use lpm_bits::Hop;
 use lpm_rules::Answer;
-use shared_words::{FourAnswers, WorkerSeat};
+use shared_words::{FourAnswers, WorkerSeat, lookup_address, lookup_four_addresses};
 use std::marker::Model;
 
 /// What a lookup of four addresses answers, in their order. Each answer is that of a version from `lo` to
@@ -111,7 +111,7 @@ impl Pass {
             × Makes ((StoreOnline token, last) ∷ (LoadOnline token, first) ∷ []) self.old self.new }
         ensures online { self.new.online ≡ true }
     {
-        shared_words::online(&mut self.seat, &table.words);
+        shared_words::report_online(&mut self.seat, &table.words);
         self.is_online = true;
     }
 
@@ -127,7 +127,7 @@ impl Pass {
         ensures steps { (place : ℕ) × Makes ((StoreOffline, place) ∷ []) self.old self.new }
         ensures offline { self.new.online ≡ false }
     {
-        shared_words::offline(&mut self.seat, &table.words);
+        shared_words::report_offline(&mut self.seat, &table.words);
         self.is_online = false;
     }
 
@@ -162,7 +162,7 @@ impl Pass {
             × Makes ((StoreQuiescent token, last) ∷ (LoadQuiescent token, first) ∷ []) self.old self.new }
         ensures online { self.new.online ≡ true }
     {
-        shared_words::quiescent(&mut self.seat, &table.words);
+        shared_words::report_quiescent(&mut self.seat, &table.words);
     }
 
     /// The next hop of the longest rule that covers the address, of a version that stood while its words were
@@ -181,7 +181,7 @@ impl Pass {
         ensures answer { LooksUp addr result.hop result.lo result.hi self.old self.new }
         ensures online { self.new.online ≡ true }
     {
-        let found = shared_words::lookup::<FIRST, SECOND, _>(&mut self.seat, &table.words, addr);
+        let found = lookup_address::<FIRST, SECOND, _>(&mut self.seat, &table.words, addr);
         self.seat.history();
         found
     }
@@ -238,7 +238,7 @@ impl Pass {
         ensures online { self.new.online ≡ true }
     {
         let words = &table.words;
-        let found = shared_words::lookup4::<FIRST, SECOND, _>(&mut self.seat, words, a, b, c, d);
+        let found = lookup_four_addresses::<FIRST, SECOND, _>(&mut self.seat, words, a, b, c, d);
         self.seat.history();
         found
     }

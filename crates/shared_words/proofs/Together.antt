@@ -8,7 +8,7 @@ use Rattle.lpm_cells.specs.Words.{IsFirstWord, entry_in, hop_in, IsLast}
 use Rattle.lpm_trace.specs.declared.step.WorkerStep.{WorkerStep}
 use Rattle.lpm_trace.specs.declared.step.WorkerStep.TheVariants.{BeginLookup, LoadFirst, LoadSecond, EndLookup}
 use Rattle.lpm_trace.specs.States.{done_at, begun_at}
-use Rattle.lpm_trace.specs.Trace.{worker_by, Worker as WorkerState, Online, LookingUp, Unread, InGroup, Answered, Seen, Probe, worker_by_step, with_answers, read_first, first_read, second_read, AreBegun, AreAnswered}
+use Rattle.lpm_trace.specs.Trace.{worker_by, Worker as WorkerState, Online, LookingUp, Unread, InGroup, Answered, FinishedLookup, Probe, worker_by_step, with_answers, read_first, first_read, second_read, AreBegun, AreAnswered}
 use Rattle.lpm_trace.specs.Laws.{IsLegalAtPlace}
 use Rattle.shared_words.specs.declared.view.View.{View}
 use Rattle.shared_words.specs.Layout.{InitialData, initial_state_of}
@@ -327,17 +327,17 @@ module _ {all : List ℕ} {low : ℕ} {v0 v f : View} {done : List AddressLookup
       (subst AreAnswered (sym (append-nil (map answer done))) (all_answers done))
 
 -- what the end of a lookup finishes
-in_order : (lo hi : ℕ) (done : List AddressLookup) (old : List Seen)
+in_order : (lo hi : ℕ) (done : List AddressLookup) (old : List FinishedLookup)
     → with_answers lo hi (map answer done) old ≡ reverse_aux (map (seen_of lo hi) done) old
 in_order lo hi [] old = refl
 in_order lo hi (x ∷ done) old = in_order lo hi done (seen_of lo hi x ∷ old)
 
-module _ (P : Seen → Type 0) (lo hi : ℕ) where
-  kept : (done : List AddressLookup) (old : List Seen) → All P (reverse_aux (map (seen_of lo hi) done) old) → All P old
+module _ (P : FinishedLookup → Type 0) (lo hi : ℕ) where
+  kept : (done : List AddressLookup) (old : List FinishedLookup) → All P (reverse_aux (map (seen_of lo hi) done) old) → All P old
   kept [] old all = all
   kept (x ∷ done) old all = All-tail P (seen_of lo hi x) old (kept done (seen_of lo hi x ∷ old) all)
 
-  each : (done : List AddressLookup) (old : List Seen) → All P (reverse_aux (map (seen_of lo hi) done) old)
+  each : (done : List AddressLookup) (old : List FinishedLookup) → All P (reverse_aux (map (seen_of lo hi) done) old)
       → All (λ x. P (seen_of lo hi x)) done
   each [] old all = All-nil (λ x. P (seen_of lo hi x))
   each (x ∷ done) old all = All-cons (λ x. P (seen_of lo hi x)) x done
@@ -351,7 +351,7 @@ module _ {all : List ℕ} {low high : ℕ} {v0 v f : View} {done : List AddressL
       → LooksUpAll all hops lo hi v0 w
   looked_together {places = n ∷ places} h ends known_then known addrs_are hops_are lo_is hi_is = absurd (omega (arith, h.count))
   looked_together {places = []} {hops} {lo} {hi} h ends known_then known addrs_are hops_are lo_is hi_is =
-      let old : List Seen = (worker_by v0.own).finished in
+      let old : List FinishedLookup = (worker_by v0.own).finished in
       let began : GoesOn v0 v = gains_on (BeginLookup all low) v0 v h.begins in
       let loaded : GoesOn v0 s = goes_on v0 v s began h.on in
       let on : GoesOn v0 w = goes_on v0 s w loaded (gains_on (EndLookup high) s w ends) in
@@ -367,7 +367,7 @@ module _ {all : List ℕ} {low high : ℕ} {v0 v f : View} {done : List AddressL
       let finished : (worker_by w.own).finished ≡ reverse_aux (map (seen_of lo hi) done) old =
       ap (λ (x : WorkerState). x.finished) state ∙ in_order (done_at low) (begun_at high) done old
       ∙ (λ i. reverse_aux (map (seen_of (sym lo_is i) (sym hi_is i)) done) old) in
-      let IsLegal : Seen → Type 0 = IsLegalAtPlace (initial_state_of v0.initial) w.seen in
+      let IsLegal : FinishedLookup → Type 0 = IsLegalAtPlace (initial_state_of v0.initial) w.seen in
       let legal : All IsLegal (worker_by w.own).finished = subst
       (λ (o : InitialData). All (IsLegalAtPlace (initial_state_of o) w.seen) (worker_by w.own).finished)
       (ap (λ (x : View). x.initial) on.same) known.legal in
@@ -405,7 +405,7 @@ module _ {addr low high : ℕ} {v0 v f : View} {x : AddressLookup} {s w : View} 
   looked {places = []} {hop} {lo} {hi} h ends known_then known addr_is hop_is lo_is hi_is =
       let all : LooksUpAll (addr ∷ []) (hop ∷ []) lo hi v0 w = looked_together h ends known_then known
       (ap (λ a. a ∷ []) addr_is) (ap (λ (o : Option ℕ). o ∷ []) hop_is) lo_is hi_is in
-      let IsLegal : Seen → Type 0 = IsLegalAtPlace (initial_state_of v0.initial) w.seen in
+      let IsLegal : FinishedLookup → Type 0 = IsLegalAtPlace (initial_state_of v0.initial) w.seen in
       record {
         started = v;
         loaded = s;

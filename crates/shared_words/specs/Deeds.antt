@@ -7,7 +7,7 @@ use Rattle.lpm_cells.specs.declared.entry.Entry.TheVariants.{Miss, Hop, Group}
 use Rattle.lpm_cells.specs.Words.{entry_in, hop_in, IsFirstWord}
 use Rattle.lpm_trace.specs.declared.step.WorkerStep.{WorkerStep}
 use Rattle.lpm_trace.specs.declared.step.WorkerStep.TheVariants.{LoadFirst, LoadSecond, BeginLookup, EndLookup}
-use Rattle.lpm_trace.specs.Trace.{Seen, Online, LookingUp, Probe, Answered, AreBegun, AreAnswered, read_first, worker_by}
+use Rattle.lpm_trace.specs.Trace.{FinishedLookup, Online, LookingUp, Probe, Answered, AreBegun, AreAnswered, read_first, worker_by}
 use Rattle.lpm_trace.specs.States.{state_after, updates_done_in, updates_begun_in}
 use Rattle.lpm_trace.specs.Laws.{IsLegalAtPlace}
 use Rattle.shared_words.specs.declared.view.View.{View}
@@ -45,7 +45,7 @@ last_at first None = first
 last_at first (Some second) = second.1
 
 -- the lookup that is finished with these loads
-abbrev pub seen_of : ℕ → ℕ → AddressLookup → Seen
+abbrev pub seen_of : ℕ → ℕ → AddressLookup → FinishedLookup
 seen_of lo hi f = record {
   addr = f.addr;
   hop = f.hop;

@@ -15,7 +15,7 @@ use lpm_rules::Answer;
 /// The next hop of the longest rule that covers the address, as a version has it that stood while the
 /// words were loaded.
 #[inline]
-pub fn lookup<const FIRST: u32, const SECOND: u32, T: InitialContent>(
+pub fn lookup_address<const FIRST: u32, const SECOND: u32, T: InitialContent>(
     seat: &mut WorkerSeat,
     table: &SharedWords<T>,
     addr: u32,

@@ -26,7 +26,7 @@ pub struct FourAnswers {
 
 /// The next hops of four addresses, between two loads of the sequence for all of them.
 #[inline]
-pub fn lookup4<const FIRST: u32, const SECOND: u32, T: InitialContent>(
+pub fn lookup_four_addresses<const FIRST: u32, const SECOND: u32, T: InitialContent>(
     seat: &mut WorkerSeat,
     table: &SharedWords<T>,
     a: u32,

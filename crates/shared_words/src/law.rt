@@ -79,9 +79,9 @@ pub fn store_as<T: InitialContent, J: Play<(), View>, A: Copy>(
 }
 
 /// The sequence is stored: the update is done.
-pub struct ClosesUpdates;
+pub struct EndsUpdate;
 
-impl Play<(), View> for ClosesUpdates {
+impl Play<(), View> for EndsUpdate {
     ghost then = { λ s me n. WriterGains EndUpdate me };
 }
 

@@ -21,11 +21,11 @@ mod words;
 mod worker;
 mod writer;
 
-pub use address::lookup;
-pub use four_addresses::{FourAnswers, lookup4};
+pub use address::lookup_address;
+pub use four_addresses::{FourAnswers, lookup_four_addresses};
 pub use initial::{Initial, InitialContent};
 pub use layout::{Layout, pairs};
-pub use reports::{offline, online, quiescent};
+pub use reports::{report_offline, report_online, report_quiescent};
 pub use view::{Role, View};
 pub use words::{SharedWords, open};
 pub use worker::WorkerSeat;

@@ -10,7 +10,7 @@ use crate::{InitialContent, SharedWords, WorkerSeat};
 
 /// Reports that the worker is online: stores the token that it loads in the worker's counter.
 #[inline]
-pub fn online<T: InitialContent>(seat: &mut WorkerSeat, table: &SharedWords<T>)
+pub fn report_online<T: InitialContent>(seat: &mut WorkerSeat, table: &SharedWords<T>)
     requires own { IsOf table.now seat.old.table seat.old.view }
     requires offline { (worker_by seat.old.view.own).phase ≡ Offline }
     ensures own { seat.new.table ≡ seat.old.table }
@@ -26,7 +26,7 @@ pub fn online<T: InitialContent>(seat: &mut WorkerSeat, table: &SharedWords<T>)
 
 /// Reports that the worker is quiescent: stores the token that it loads in the worker's counter.
 #[inline]
-pub fn quiescent<T: InitialContent>(seat: &mut WorkerSeat, table: &SharedWords<T>)
+pub fn report_quiescent<T: InitialContent>(seat: &mut WorkerSeat, table: &SharedWords<T>)
     requires own { IsOf table.now seat.old.table seat.old.view }
     requires online { (worker_by seat.old.view.own).phase ≡ Online }
     ensures own { seat.new.table ≡ seat.old.table }
@@ -42,7 +42,7 @@ pub fn quiescent<T: InitialContent>(seat: &mut WorkerSeat, table: &SharedWords<T
 
 /// Reports that the worker is offline: stores 0 in the worker's counter.
 #[inline]
-pub fn offline<T: InitialContent>(seat: &mut WorkerSeat, table: &SharedWords<T>)
+pub fn report_offline<T: InitialContent>(seat: &mut WorkerSeat, table: &SharedWords<T>)
     requires own { IsOf table.now seat.old.table seat.old.view }
     requires online { (worker_by seat.old.view.own).phase ≡ Online }
     ensures own { seat.new.table ≡ seat.old.table }

@@ -1,12 +1,12 @@
 //! The writer's seat.
 
 ghost use Rattle.std.specs.Prelude.{◌≡◌, ℕ, ◌+◌, ◌<◌, slice_index};
-ghost use Rattle.lpm_trace.specs.declared.step.WriterStep.TheVariants.{StoreFirst, StoreSecond, BeginUpdate as OpensUpdate, EndUpdate, BumpToken, LoadCounter};
+ghost use Rattle.lpm_trace.specs.declared.step.WriterStep.TheVariants.{StoreFirst, StoreSecond, BeginUpdate, EndUpdate, BumpToken, LoadCounter};
 ghost use Rattle.shared_words.specs.Rule.{with_one_more, worker_view};
 ghost use Rattle.shared_words.specs.Seats.{IsOf, AreLawful, MayFollow, state_of_view, with_step};
 
 use crate::initial::InitialContent;
-use crate::law::{BumpsToken, ClosesUpdates, Looks, NextWorker, Place, load_as, store_as};
+use crate::law::{BumpsToken, EndsUpdate, Looks, NextWorker, Place, load_as, store_as};
 use crate::layout::{Layout, first_at, half, with_half};
 use crate::words::SharedWords;
 use crate::worker::WorkerSeat;
@@ -73,7 +73,7 @@ impl WriterSeat {
 
     /// Stores the next number of the sequence: the update of this change begins.
     #[inline]
-    pub fn open_update<T: InitialContent>(
+    pub fn begin_update<T: InitialContent>(
         &mut self,
         table: &SharedWords<T>,
         change: &RuleChange,
@@ -81,9 +81,9 @@ impl WriterSeat {
     )
         requires own { IsOf table.now self.old.table self.old.view }
         requires next { number ≡ (state_of_view self.old.view).sequence + 1 }
-        requires may { MayFollow self.old.view (OpensUpdate change.now) }
+        requires may { MayFollow self.old.view (BeginUpdate change.now) }
         ensures own { self.new.table ≡ self.old.table }
-        ensures step { self.new.view ≡ with_step self.old.view (OpensUpdate change.now) }
+        ensures step { self.new.view ≡ with_step self.old.view (BeginUpdate change.now) }
     {
         let at = Layout::SEQUENCE;
         store_as::<T, Brand, &RuleChange>(&table.board, &mut self.place, at, number, change);
@@ -91,7 +91,7 @@ impl WriterSeat {
 
     /// Stores the next number of the sequence: the update is done.
     #[inline]
-    pub fn close_update<T: InitialContent>(&mut self, table: &SharedWords<T>, number: u64)
+    pub fn end_update<T: InitialContent>(&mut self, table: &SharedWords<T>, number: u64)
         requires own { IsOf table.now self.old.table self.old.view }
         requires next { number ≡ (state_of_view self.old.view).sequence + 1 }
         requires may { MayFollow self.old.view EndUpdate }
@@ -99,7 +99,7 @@ impl WriterSeat {
         ensures step { self.new.view ≡ with_step self.old.view EndUpdate }
     {
         let shared = &table.board.shared;
-        shared.store::<ClosesUpdates>(&mut self.place, Layout::SEQUENCE, number);
+        shared.store::<EndsUpdate>(&mut self.place, Layout::SEQUENCE, number);
     }
 
     /// Stores the next token.

@@ -9,7 +9,7 @@ use Rattle.lpm_trace.specs.declared.step.WriterStep.{WriterStep}
 use Rattle.lpm_trace.specs.declared.step.WorkerStep.{WorkerStep}
 use Rattle.lpm_trace.specs.declared.step.WorkerStep.TheVariants.{MeetWriter}
 use Rattle.lpm_trace.specs.States.{InitialState}
-use Rattle.lpm_trace.specs.Trace.{worker_by, Seen, Worker as WorkerState, worker_by_step}
+use Rattle.lpm_trace.specs.Trace.{worker_by, FinishedLookup, Worker as WorkerState, worker_by_step}
 use Rattle.lpm_trace.specs.Laws.{ArePlaced, IsLegalAtPlace}
 use Rattle.shared_words.specs.Rule.{IsLater}
 use Rattle.shared_words.specs.Deeds.{seen_of}
@@ -31,7 +31,7 @@ use Rattle.storm.specs.declared.looking.Worker.{Worker}
 abbrev pub AreTold : InitialState → PassState → List (ℕ × Answer) → Type 0
 AreTold c p xs = (xs ≡ answers_by p) × All (IsOfAStandingVersion c p.seen) (lookups_of p)
 
-versions_later : (c : InitialState) (before after : List WriterStep) (xs : List Seen) → IsLater before after
+versions_later : (c : InitialState) (before after : List WriterStep) (xs : List FinishedLookup) → IsLater before after
     → All (IsOfAStandingVersion c before) xs → All (IsOfAStandingVersion c after) xs
 versions_later c before after xs later all k d below =
     let h = all k d below in
@@ -49,7 +49,7 @@ told_on c p q xs same later told = (
 abbrev pub EndsNone : WorkerStep → Type 0
 EndsNone s = (now : ℕ) (r : WorkerState) → (worker_by_step now r s).finished ≡ r.finished
 
-abbrev finished_by : List (WorkerStep × ℕ) → List Seen
+abbrev finished_by : List (WorkerStep × ℕ) → List FinishedLookup
 finished_by steps = reverse (worker_by steps).finished
 
 pub kept_by_one : (s : WorkerStep) (place : ℕ) (p q : PassState) → EndsNone s → Makes ((s, place) ∷ []) p q
@@ -65,7 +65,7 @@ kept_by_two r s first last p q none_first none_second h =
 -- ---- one lookup more
 
 module _ (p q : PassState) (addr : ℕ) (answer : Answer) (looks : LooksUp addr answer.hop answer.lo answer.hi p q) (history : IsHistory q) where
-  abbrev seen : Seen
+  abbrev seen : FinishedLookup
   seen = seen_of answer.lo answer.hi (record looks.found { addr = addr })
 
   finished : (worker_by q.steps).finished ≡ seen ∷ (worker_by p.steps).finished

@@ -27,7 +27,7 @@ use Rattle.lpm_limits.specs.declared.refusal.Refusal.TheVariants.{TooManyRules, 
 use Rattle.lpm_rules.specs.Longest.{IsLongestHop}
 use Rattle.lpm_rules.proofs.Longest.{rules_after-append}
 use Rattle.lpm_trace.specs.States.{InitialState, TableState, updates_begun_in, state_after}
-use Rattle.lpm_trace.specs.Trace.{Seen}
+use Rattle.lpm_trace.specs.Trace.{FinishedLookup}
 use Rattle.lpm_trace.proofs.Traces.{begun_grows}
 use Rattle.lpm_writer.specs.Making.{HasWidths}
 use Rattle.shared_fib.specs.Running.{Identity, IsAtRest, WriterState, state_of_writer, initial_writer, initial_state, steps_of, by_steps}
@@ -292,7 +292,7 @@ module _ (f g : ℕ) where
   -- ---- answers
 
   -- a lookup of a version by the writer's steps answers by a version of the accepted changes
-  pub answer_is_right : (R : RuleMap) (id : Identity) (w : WriterState) (changes : List (Change f g)) (seen : Seen)
+  pub answer_is_right : (R : RuleMap) (id : Identity) (w : WriterState) (changes : List (Change f g)) (seen : FinishedLookup)
       → HasWidths f g (initial_state id) → w.identity ≡ id → HasVersions R w changes
       → IsOfAStandingVersion (initial_state id) (steps_of w) seen → IsOfSomeVersion R changes (answer_of seen)
   answer_is_right R id w changes seen widths own has of =

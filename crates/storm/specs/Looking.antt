@@ -6,7 +6,7 @@ use Rattle.std.specs.List.{AllPairs, flat_map}
 use Rattle.lpm_rules.specs.declared.Answer.{Answer}
 use Rattle.lpm_trace.specs.declared.step.WriterStep.{WriterStep}
 use Rattle.lpm_trace.specs.States.{InitialState}
-use Rattle.lpm_trace.specs.Trace.{worker_by, Seen}
+use Rattle.lpm_trace.specs.Trace.{worker_by, FinishedLookup}
 use Rattle.lpm_trace.specs.Laws.{ArePlaced}
 use Rattle.shared_fib.specs.Laws.{IsOfVersion}
 use Rattle.shared_fib.specs.Running.{Identity, initial_state}
@@ -21,11 +21,11 @@ times (suc n) addrs = times n addrs ++ addrs
 -- ---- lookups of a pass
 
 -- the lookups that a pass has finished by its own steps, the oldest first
-abbrev pub lookups_of : PassState → List Seen
+abbrev pub lookups_of : PassState → List FinishedLookup
 lookups_of p = reverse (worker_by p.steps).finished
 
 -- what a finished lookup answered, beside its address
-abbrev pub answer_of : Seen → ℕ × Answer
+abbrev pub answer_of : FinishedLookup → ℕ × Answer
 answer_of seen = (seen.addr, record { hop = seen.hop; lo = seen.lo; hi = seen.hi })
 
 -- what the pass answered, in order
@@ -34,7 +34,7 @@ answers_by p = map answer_of (lookups_of p)
 
 -- by these steps of the writer the lookup is of a version: its answer is the longest match in the rules of
 -- one that stood between its first and its last read, and lies from its `lo` to its `hi`
-abbrev pub IsOfAStandingVersion : InitialState → List WriterStep → Seen → Type 0
+abbrev pub IsOfAStandingVersion : InitialState → List WriterStep → FinishedLookup → Type 0
 IsOfAStandingVersion c w_steps seen = (k : ℕ) × IsOfVersion c w_steps seen k
 
 -- ---- a worker

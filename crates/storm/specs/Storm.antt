@@ -13,7 +13,7 @@ use Rattle.fib_model.specs.Outcomes.{Frees, groups_in_use}
 use Rattle.lpm_writer.specs.Steps.{Synchronizes}
 use Rattle.defer_queue.specs.declared.Reclaimed.{Reclaimed}
 use Rattle.shared_fib.specs.Passes.{PassState}
-use Rattle.audit.specs.declared.report.Report.{Report}
+use Rattle.audit.specs.declared.report.TableCounts.{TableCounts}
 use Rattle.audit.specs.declared.report.StormReport.{StormReport}
 use Rattle.audit.specs.Wrong.{AreWrong, IsOfSomeVersion}
 use Rattle.storm.specs.Looking.{AreOfWorkers, HasLookedUp, answers_of_passes}
@@ -91,7 +91,7 @@ pub record Settles (id : Identity) (last end : WriterState) : Type 0 where
   pub emptied : end.table.limbo ≡ []
 
 -- the report has what the table counts
-pub record IsCountOf (first second : ℕ) (w : WriterState) (r : Report) : Type 0 where
+pub record IsCountOf (first second : ℕ) (w : WriterState) (r : TableCounts) : Type 0 where
   pub rules : r.rules ≡ len w.table.rules
   pub versions : r.versions ≡ w.table.begun
   pub in_use : r.in_use ≡ groups_in_use first second w.table.rules

@@ -8,7 +8,7 @@ ghost use Rattle.storm.specs.Looking.{AreInSeats, HasAnswered, IsOver, answers_o
 ghost use Rattle.storm.specs.Storm.{IsCountOf, Settles};
 
 use crate::looking::Worker;
-use audit::{Past, Report};
+use audit::{Past, TableCounts};
 use fib_model::{Order, Outcome};
 use lpm_rules::{Change, Put, Rule};
 use lpm_writer::Exhausted;
@@ -86,13 +86,13 @@ pub fn settle<R: Wait, const FIRST: u32, const SECOND: u32>(
 pub fn report_of<const FIRST: u32, const SECOND: u32>(
     table: &SharedTable<FIRST, SECOND>,
     writer: &mut Writer<FIRST, SECOND>,
-) -> Report
+) -> TableCounts
     requires own { writer.old.identity ≡ table.now }
     ensures same { writer.new ≡ writer.old }
     ensures counts { IsCountOf FIRST SECOND writer.old result }
 {
     let counts = writer.counts();
-    Report {
+    TableCounts {
         rules: writer.rules(),
         versions: writer.versions(),
         in_use: counts.in_use,

@@ -1,7 +1,7 @@
 ghost use Rattle.lpm_bits.specs.Widths.{IsShape};
 
 use super::asserting::assert_at;
-use audit::{Report, expect, report_text};
+use audit::{TableCounts, expect, report_text};
 use lpm_bits::Hop;
 use lpm_rules::{Put, Rule, Rules};
 use std::alloc::Global;
@@ -76,7 +76,7 @@ fn expects_many(rt: HostRuntime) {
 
 #[test]
 fn reports_six_lines(rt: HostRuntime) {
-    let report = Report {
+    let report = TableCounts {
         rules: 3,
         versions: 18_446_744_073_709_551_615,
         in_use: 1,

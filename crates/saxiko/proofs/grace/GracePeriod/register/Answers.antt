@@ -3,6 +3,6 @@ use Rattle.saxiko.proofs.grace.GracePeriod.register.Goals as goal
 
 pub returns : goal.returns
 returns c =
-    let known = c.register.ensures in
-    registers c.self.inside.period c.self.inside.bench c.register.new.bench c.args.self.now c.self.view_is _ c.args.worker
-    c.register.result c.self.invariant.0 known.reader known.registered known.no_such_worker known.taken known.unchanged known.own
+    let known = c.reader_of_worker.ensures in
+    registers c.self.inside.period c.self.inside.bench c.reader_of_worker.new.bench c.args.self.now c.self.view_is _ c.args.worker
+    c.reader_of_worker.result c.self.invariant.0 known.reader known.registered known.no_such_worker known.taken known.unchanged known.own

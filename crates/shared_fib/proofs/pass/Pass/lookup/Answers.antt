@@ -3,6 +3,6 @@ use Rattle.shared_fib.proofs.pass.Pass.lookup.Goals as goal
 
 pub returns-clause-answer : goal.returns-clause-answer
 returns-clause-answer g c =
-    looks_up c.self.inside.is_online _ c.args.addr c.lookup-found.result.hop c.lookup-found.result.lo c.lookup-found.result.hi
-    c.self.inside.seat c.lookup-found.new.seat c.args.self.now c.self.view_is
-    c.lookup-found.ensures.own c.lookup-found.ensures.worker c.lookup-found.ensures.answer c.history.ensures
+    looks_up c.self.inside.is_online _ c.args.addr c.lookup_address-found.result.hop c.lookup_address-found.result.lo c.lookup_address-found.result.hi
+    c.self.inside.seat c.lookup_address-found.new.seat c.args.self.now c.self.view_is
+    c.lookup_address-found.ensures.own c.lookup_address-found.ensures.worker c.lookup_address-found.ensures.answer c.history.ensures

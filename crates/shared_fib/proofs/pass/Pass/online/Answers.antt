@@ -4,5 +4,5 @@ use Rattle.shared_fib.proofs.pass.Pass.online.Goals as goal
 
 pub returns-clause-steps : goal.returns-clause-steps
 returns-clause-steps g c =
-    makes_two c.self.inside.is_online _ (λ token. LoadOnline token) (λ token. StoreOnline token) c.self.inside.seat c.online.new.seat
-    c.args.self.now c.self.view_is c.online.ensures.own c.online.ensures.worker c.online.ensures.steps
+    makes_two c.self.inside.is_online _ (λ token. LoadOnline token) (λ token. StoreOnline token) c.self.inside.seat c.report_online.new.seat
+    c.args.self.now c.self.view_is c.report_online.ensures.own c.report_online.ensures.worker c.report_online.ensures.steps

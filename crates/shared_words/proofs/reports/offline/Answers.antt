@@ -1,8 +1,0 @@
-use Rattle.std.proofs.Common.{rules}
-use Rattle.shared_words.proofs.reports.offline.Goals as goal
-
-pub returns-clause-steps : goal.returns-clause-steps
-returns-clause-steps g c = search rules
-
-pub returns-clause-offline : goal.returns-clause-offline
-returns-clause-offline c = search rules
