@@ -140,7 +140,8 @@ VersionsNeverFall = (c : InitialState) (steps : List TraceStep) (a t u : ℕ) �
 -- a finished lookup is legal at a place: its answer is that of the version that its address shows when
 -- the writer has made so many steps, from the read of its first word to the read of its last one. That
 -- version lies from `lo` to `hi`. Here `first` and `last` are places.
-pub record IsLegalAtPlace (c : InitialState) (w_steps : List WriterStep) (seen : FinishedLookup) : Type 0 where
+pub record IsLegalAtPlace (c : InitialState) (w_steps : List WriterStep)
+    (seen : FinishedLookup) : Type 0 where
   pub place : ℕ
   pub from : seen.first ≤ place
   pub to : place ≤ seen.last

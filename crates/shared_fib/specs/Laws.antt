@@ -20,7 +20,8 @@ StandsAt c w_steps place k =
 
 -- the lookup can be said to be of version k: its answer is that of the longest match in the rules of that
 -- version, which stood at a place of the lookup's span and lies from `lo` to `hi`
-pub record IsOfVersion (c : InitialState) (w_steps : List WriterStep) (seen : FinishedLookup) (k : ℕ) : Type 0 where
+pub record IsOfVersion (c : InitialState) (w_steps : List WriterStep) (seen : FinishedLookup)
+    (k : ℕ) : Type 0 where
   pub place : ℕ
   pub from : seen.first ≤ place
   pub to : place ≤ seen.last
@@ -54,7 +55,8 @@ LookupsNeverGoBack = (c : InitialState) (before after : List WriterStep) (earlie
 
 -- the earlier lookup was finished with the older of a worker's steps, after which the worker was neither in
 -- a report nor in a lookup; the later one was finished since
-pub record IsFinishedSince (newer older : List (WorkerStep × ℕ)) (earlier later : FinishedLookup) : Type 0 where
+pub record IsFinishedSince (newer older : List (WorkerStep × ℕ))
+    (earlier later : FinishedLookup) : Type 0 where
   pub rests : IsBetweenDeeds (worker_by older).phase
   pub before : (i : ℕ) × (slice_get (worker_by older).finished i ≡ Some earlier)
   pub since : List FinishedLookup
