@@ -19,6 +19,7 @@ Each fault is printed as `FILE:LINE: what`, and any makes the exit status 1. Che
   row names besides, or in a crate that it names.
 - meanings: each file of specs that begins with *Meaning* is named in docs/TRUSTED.md, in a row of its crate.
 - clauses: beside a column Call, the clauses that a column Contract names are those of the row's calls.
+- places: in a column Contract, a name before a file of the crate, as (`specs/Fib.antt`), is declared in that file.
 - figures: each table of tools/bench.py stands in docs/BENCHMARKS.md as its data have it, and the figures are what
   tools/plots.py draws of them; each number below the heading Performance of README.md stands in docs/BENCHMARKS.md.
 - excerpts: where a path stands behind the language of a fenced block, each line of the block is a line of that file, or
@@ -462,6 +463,15 @@ def check_clauses(page):
                 yield Fault(page.path, row.line, f"no clause of these calls: {name}")
 
 
+def check_places(page):
+    crate = crate_of(page.path)
+    for row in rows(page) if crate in crates() else ():
+        for name, file in re.findall(r"`(\w+)` (?:in |\()`(specs/\w+\.antt)`", row.cells.get("Contract", "")):
+            path = TOP / "crates" / crate / file
+            if path.exists() and name not in declared_by(source(path), True):
+                yield Fault(page.path, row.line, f"not in {file}: {name}")
+
+
 def check_excerpts(page):
     for block in blocks(page):
         _, _, path = block.kind.partition(" ")
@@ -536,8 +546,8 @@ def check_names(page):
 def faults(page, program):
     """All faults of a page. Without a program nothing is run."""
     runs = check_runs(page, program) if program else []
-    checks = (check_links, check_paths, check_crates, check_files, check_meanings, check_clauses, check_figures,
-              check_excerpts, check_calls, check_names)
+    checks = (check_links, check_paths, check_crates, check_files, check_meanings, check_clauses, check_places,
+              check_figures, check_excerpts, check_calls, check_names)
     return [*runs, *(fault for check in checks for fault in check(page))]
 
 
@@ -565,6 +575,7 @@ PLANTS = [
     Plant("crates/bulk/README.md", "`bulk_plain` | `workers`", "`bulk_plain` | `desks`",
           "no clause of these calls: desks"),
     Plant("crates/fib/README.md", "(`specs/Replay.antt`)", "(`specs/Again.antt`)", "no such file: specs/Again.antt"),
+    Plant("crates/fib/README.md", "`state_after_report` (", "`told` (", "not in specs/Fib.antt: told"),
     Plant("crates/storm/README.md", "storm::run(", "storm::rain(", "no such call: storm::rain"),
     Plant("docs/BENCHMARKS.md", "| 1,000,000 |", "| 1,000,001 |", "not the table that `tools/bench.py job"),
     Plant("README.md", "takes 19.71 ns", "takes 18.71 ns", "no number of docs/BENCHMARKS.md: 18.71"),
