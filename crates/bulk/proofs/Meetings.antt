@@ -57,24 +57,24 @@ rests_answer w addr hop place k rest written of late =
 -- a lookup between whose ends a writer that rests has done nothing
 looked_up : (w : WriterState) (addr : ℕ) (hop : Option ℕ) (lo hi : ℕ) (p q : PassState) → IsAtRest w
     → IsWritten (initial_state w.identity) (steps_of w) → LooksUp addr hop lo hi p q → p.table ≡ w.identity
-    → p.seen ≡ steps_of w → q.seen ≡ steps_of w → IsLongestHop (width_of w) w.table.rules addr hop
+    → p.writer_steps ≡ steps_of w → q.writer_steps ≡ steps_of w → IsLongestHop (width_of w) w.table.rules addr hop
 looked_up w addr hop lo hi p q rest written looks own before after =
     let f = looks.found in
     let a = looks.answer in
     let of : IsOfVersion w.identity (steps_of w) f.addr f.hop a.place a.version = subst
     (λ (z : Identity × List WriterStep). IsOfVersion z.0 z.1 f.addr f.hop a.place a.version)
     (λ i. (own i, after i)) a.answer in
-    let early : length p.seen ≤ f.first = words_after addr hop lo hi p q looks in
+    let early : length p.writer_steps ≤ f.first = words_after addr hop lo hi p q looks in
     let late : length (steps_of w) ≤ a.place = omega (arith, ap length before, early, a.stood.0) in
     subst (λ (z : ℕ × Option ℕ). IsLongestHop (width_of w) w.table.rules z.0 z.1) (λ i. (looks.result.0 i, looks.result.1 i))
     (rests_answer w f.addr f.hop a.place a.version rest written of late)
 
 -- the answers so far, and one more
 pub answers_more : (id : Identity) (addrs : List ℕ) (hops : List (Option ℕ)) (addr : ℕ) (hop : Option ℕ) (lo hi : ℕ) (first : List WriterStep)
-    (p q : PassState) → AnswersAtRest id addrs hops first p.seen → IsLater first p.seen → p.table ≡ id → LooksUp addr hop lo hi p q
-    → AnswersAtRest id (addrs ++ addr ∷ []) (hops ++ hop ∷ []) first q.seen
+    (p q : PassState) → AnswersAtRest id addrs hops first p.writer_steps → IsLater first p.writer_steps → p.table ≡ id → LooksUp addr hop lo hi p q
+    → AnswersAtRest id (addrs ++ addr ∷ []) (hops ++ hop ∷ []) first q.writer_steps
 answers_more id addrs hops addr hop lo hi first p q done later own looks w is rest written before after =
-    let here : p.seen ≡ steps_of w = between first p.seen q.seen later looks.steps.seen (after ∙ sym before) ∙ before in
+    let here : p.writer_steps ≡ steps_of w = between first p.writer_steps q.writer_steps later looks.steps.writer_steps (after ∙ sym before) ∙ before in
     AreLongestHops-append (width_of w) w.table.rules addrs hops addr hop (done w is rest written before here)
     (looked_up w addr hop lo hi p q rest written looks (own ∙ sym is) here after)
 
@@ -150,7 +150,7 @@ kept_desk id old new was kept = record {
   table = ap (λ (p : PassState). p.table) kept;
   worker = ap (λ (p : PassState). p.worker) kept;
   offline = ap (λ (p : PassState). p.online) kept ∙ was.offline;
-  later = subst (λ (p : PassState). IsLater old.pass.seen p.seen) (sym kept) ([], refl);
+  later = subst (λ (p : PassState). IsLater old.pass.writer_steps p.writer_steps) (sym kept) ([], refl);
 }
 
 pub kept_desks : (id : Identity) (old new : List Desk) → All (IsDeskOf id) old
@@ -164,7 +164,7 @@ same_twice a b c h k = record {
   table = k.table ∙ h.table;
   worker = k.worker ∙ h.worker;
   offline = k.offline;
-  later = later_trans a.pass.seen b.pass.seen c.pass.seen h.later k.later;
+  later = later_trans a.pass.writer_steps b.pass.writer_steps c.pass.writer_steps h.later k.later;
 }
 
 pub desks_twice : (old middle new : List Desk) → length middle ≡ length old → EachDesk IsSameDesk old middle
@@ -177,12 +177,12 @@ desks_twice old middle new len before after k d lt =
 
 -- a pass that meets the writer
 pub met : (w : WriterState) (old new : Desk) (made : List (WorkerStep × ℕ)) → Makes made old.pass new.pass
-    → new.pass.online ≡ false → new.hops ≡ old.hops → new.pass.seen ≡ steps_of w → IsHistory new.pass → IsAtRest w
+    → new.pass.online ≡ false → new.hops ≡ old.hops → new.pass.writer_steps ≡ steps_of w → IsHistory new.pass → IsAtRest w
     → HasMet w old new
 met w old new made step offline hops seen history rests = record {
-  same = record { table = step.table; worker = step.worker; offline = offline; later = step.seen };
+  same = record { table = step.table; worker = step.worker; offline = offline; later = step.writer_steps };
   hops = hops;
-  seen = seen;
+  writer_steps = seen;
   history = history;
   rests = rests;
 }
@@ -190,21 +190,21 @@ met w old new made step offline hops seen history rests = record {
 -- a pass that comes online as p, looks up until it is q, and goes offline
 pub has_answered : (id : Identity) (addrs : List ℕ) (old new : Desk) (p q : PassState) (came left : List (WorkerStep × ℕ))
     → old.pass.table ≡ id → new.pass.online ≡ false
-    → Makes came old.pass p → q.table ≡ id → q.worker ≡ p.worker → IsLater p.seen q.seen → Makes left q new.pass
-    → AnswersAtRest id addrs new.hops.items p.seen q.seen → HasAnswered addrs old new
+    → Makes came old.pass p → q.table ≡ id → q.worker ≡ p.worker → IsLater p.writer_steps q.writer_steps → Makes left q new.pass
+    → AnswersAtRest id addrs new.hops.items p.writer_steps q.writer_steps → HasAnswered addrs old new
 has_answered id addrs old new p q came left was offline comes own worker looks leaves answers =
-    let first : List WriterStep = old.pass.seen in
-    let last : List WriterStep = new.pass.seen in
+    let first : List WriterStep = old.pass.writer_steps in
+    let last : List WriterStep = new.pass.writer_steps in
     record {
       same = record {
         table = leaves.table ∙ (own ∙ sym was);
         worker = leaves.worker ∙ (worker ∙ comes.worker);
         offline = offline;
-        later = later_trans first p.seen last comes.seen (later_trans p.seen q.seen last looks leaves.seen);
+        later = later_trans first p.writer_steps last comes.writer_steps (later_trans p.writer_steps q.writer_steps last looks leaves.writer_steps);
       };
       answers = λ w of rest written before after.
-          answers_within id addrs new.hops.items first p.seen q.seen last
-          comes.seen looks leaves.seen answers w (of ∙ was) rest written before after;
+          answers_within id addrs new.hops.items first p.writer_steps q.writer_steps last
+          comes.writer_steps looks leaves.writer_steps answers w (of ∙ was) rest written before after;
     }
 
 -- ---- two meetings
@@ -214,14 +214,14 @@ answered_at_rest : (w : WriterState) (addrs : List ℕ) (a b c d : Desk) → a.p
     → HasMet w a b → HasAnswered addrs b c → HasMet w c d
     → AreLongestHops (width_of w) w.table.rules addrs d.hops.items
 answered_at_rest w addrs a b c d is first answers last =
-    let again : d.pass.seen ≡ b.pass.seen = last.seen ∙ sym first.seen in
-    let seen : c.pass.seen ≡ steps_of w =
-    between b.pass.seen c.pass.seen d.pass.seen answers.same.later last.same.later again
-    ∙ first.seen in
+    let again : d.pass.writer_steps ≡ b.pass.writer_steps = last.writer_steps ∙ sym first.writer_steps in
+    let seen : c.pass.writer_steps ≡ steps_of w =
+    between b.pass.writer_steps c.pass.writer_steps d.pass.writer_steps answers.same.later last.same.later again
+    ∙ first.writer_steps in
     let own : b.pass.table ≡ w.identity = first.same.table ∙ is in
     let written : IsWritten (initial_state w.identity) (steps_of w) =
-    subst (λ (z : Identity × List WriterStep). IsWritten (initial_state z.0) z.1) (λ i. (own i, first.seen i)) first.history.written in
-    rw last.hops (answers.answers w (sym own) first.rests written first.seen seen)
+    subst (λ (z : Identity × List WriterStep). IsWritten (initial_state z.0) z.1) (λ i. (own i, first.writer_steps i)) first.history.written in
+    rw last.hops (answers.answers w (sym own) first.rests written first.writer_steps seen)
 
 -- desks that have met the writer, have answered a piece each, and have met the writer again, which is as it was
 module _ (w z : WriterState) (same : z ≡ w) (xs : List ℕ) (ps qs rs ss : List Desk) (met_len : length qs ≡ length ps)

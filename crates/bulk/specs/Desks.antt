@@ -38,14 +38,14 @@ pub record IsSameDesk (old new : Desk) : Type 0 where
   pub table : new.pass.table ≡ old.pass.table
   pub worker : worker_of new ≡ worker_of old
   pub offline : new.pass.online ≡ false
-  pub later : IsLater old.pass.seen new.pass.seen
+  pub later : IsLater old.pass.writer_steps new.pass.writer_steps
 
 -- its pass has met this writer, which rests: it has seen all of the writer's steps, and what it has seen are
 -- steps that a writer makes
 pub record HasMet (w : WriterState) (old new : Desk) : Type 0 where
   pub same : IsSameDesk old new
   pub hops : new.hops ≡ old.hops
-  pub seen : new.pass.seen ≡ steps_of w
+  pub writer_steps : new.pass.writer_steps ≡ steps_of w
   pub history : IsHistory new.pass
   pub rests : IsAtRest w
 
@@ -59,4 +59,4 @@ AnswersAtRest id addrs hops before after = (w : WriterState) → w.identity ≡ 
 -- it has answered these addresses
 pub record HasAnswered (addrs : List ℕ) (old new : Desk) : Type 0 where
   pub same : IsSameDesk old new
-  pub answers : AnswersAtRest old.pass.table addrs new.hops.items old.pass.seen new.pass.seen
+  pub answers : AnswersAtRest old.pass.table addrs new.hops.items old.pass.writer_steps new.pass.writer_steps

@@ -142,7 +142,7 @@ impl Owner {
         ensures own { reader.new.table ≡ reader.old.table }
         ensures step { (number : ℕ) × (place : ℕ)
             × Makes ((MeetWriter number, place) ∷ []) reader.old reader.new }
-        ensures all { reader.new.seen ≡ steps_of self.old.writer }
+        ensures all { reader.new.writer_steps ≡ steps_of self.old.writer }
         ensures same { self.new ≡ self.old }
         ensures online { reader.new.online ≡ reader.old.online }
     {

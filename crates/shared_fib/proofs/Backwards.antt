@@ -115,12 +115,12 @@ in_order c steps earlier later old new apart same =
 
 -- a pass that has seen all steps of a writer at rest, from the first step of its lookup to the last
 counted : (w : WriterState) (lo hi begins : ℕ) (p q : PassState) → IsAtRest w → IsHistory q → q.table ≡ w.identity
-    → p.seen ≡ steps_of w → q.seen ≡ steps_of w → length p.seen ≤ begins
-    → lo ≡ updates_done (oldest begins q.seen) → hi ≡ updates_begun q.seen
+    → p.writer_steps ≡ steps_of w → q.writer_steps ≡ steps_of w → length p.writer_steps ≤ begins
+    → lo ≡ updates_done (oldest begins q.writer_steps) → hi ≡ updates_begun q.writer_steps
     → (lo ≡ w.table.begun) × (hi ≡ w.table.begun)
 counted w lo hi begins p q rest history own before after late done_then begun_then =
-    let all : oldest begins q.seen ≡ steps_of w =
-    oldest_all q.seen begins (omega (arith, late, ap length before, ap length after)) ∙ after in
+    let all : oldest begins q.writer_steps ≡ steps_of w =
+    oldest_all q.writer_steps begins (omega (arith, late, ap length before, ap length after)) ∙ after in
     let written : IsWritten (initial_state w.identity) (steps_of w) =
     subst (λ (z : Identity × List WriterStep). IsWritten (initial_state z.0) z.1) (λ i. (own i, after i)) history.written in
     let now = counts (initial_state w.identity) (steps_of w) written in (
@@ -132,11 +132,11 @@ pub lookups_count_versions : LookupsCountVersions
 lookups_count_versions w lo hi p q rest (inl told) history own before after =
     let h = told.2 in
     let begin : WorkerStep × ℕ = (BeginLookup (told.0 ∷ []) h.low, h.begins) in
-    let place = all_last (λ s. (length p.seen ≤ s.1) × (s.1 ≤ length q.seen)) ((EndLookup h.high, length q.seen) ∷ loads_at h.found.word h.found.first h.found.second) begin h.steps.places in
+    let place = all_last (λ s. (length p.writer_steps ≤ s.1) × (s.1 ≤ length q.writer_steps)) ((EndLookup h.high, length q.writer_steps) ∷ loads_at h.found.word h.found.first h.found.second) begin h.steps.places in
     counted w lo hi h.begins p q rest history own before after place.0 h.done_then h.begun_then
 lookups_count_versions w lo hi p q rest (inr told) history own before after =
     let h = told.2 in
     let begin : WorkerStep × ℕ = (BeginLookup told.0 h.low, h.begins) in
-    let place = all_last (λ s. (length p.seen ≤ s.1) × (s.1 ≤ length q.seen))
-    ((EndLookup h.high, length q.seen) ∷ (seconds_at h.found ++ firsts_at h.found)) begin h.steps.places in
+    let place = all_last (λ s. (length p.writer_steps ≤ s.1) × (s.1 ≤ length q.writer_steps))
+    ((EndLookup h.high, length q.writer_steps) ∷ (seconds_at h.found ++ firsts_at h.found)) begin h.steps.places in
     counted w lo hi h.begins p q rest history own before after place.0 h.done_then h.begun_then

@@ -193,7 +193,7 @@ module _ (f s : ℕ) (key : InitialTable f s) (words : WordsAt) (seat : TableId)
   state_by after z = record {
     identity = record { words = after; initial = w.initial };
     config = z.config;
-    table = state_of z.rules.rules w.seen z.pool z.versions;
+    table = state_of z.rules.rules w.writer_steps z.pool z.versions;
   }
 
   pub opens : (after : TableId) (z : ControlState f s) → after ≡ seat → z.pool.queue.items ≡ [] → z.versions ≡ 0
@@ -205,7 +205,7 @@ module _ (f s : ℕ) (key : InitialTable f s) (words : WordsAt) (seat : TableId)
         config = z.config;
         table = record {
           rules = z.rules.rules;
-          readers = ap (λ (x : View). x.seen) now_is i;
+          readers = ap (λ (x : View). x.writer_steps) now_is i;
           limbo = ap tokens_of none i;
           begun = new i;
         };

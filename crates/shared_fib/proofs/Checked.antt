@@ -37,9 +37,9 @@ tokens_numbered o steps token (item ∷ items) are =
 -- ---- so each was checked
 
 -- what the look at the end of a command finds, by what the table was opened with
-pub looked : (v w : View) → OnlySees v w → AreChecked w.initial w.seen → AreChecked v.initial w.seen
+pub looked : (v w : View) → OnlySees v w → AreChecked w.initial w.writer_steps → AreChecked v.initial w.writer_steps
 looked v w sees are =
-    subst (λ (o : InitialData). AreChecked o w.seen) (ap (λ (x : View). x.initial) sees) are
+    subst (λ (o : InitialData). AreChecked o w.writer_steps) (ap (λ (x : View). x.initial) sees) are
 
 -- a token that was started, and has passed
 pub token_checked : (o : InitialData) (steps : List WriterStep) (t : ℕ) → 0 < t
@@ -105,10 +105,10 @@ newest_checked o x z h are =
     }
 
 pub synchronize_checked : (v w : View) → OnlySees v w
-    → Synchronizes v.initial.workers v.initial.token v.seen w.seen
-    → AreChecked v.initial w.seen
-    → IsNewestChecked v.seen (initial_state_of v.initial) (initial_state_of w.initial) w.seen
+    → Synchronizes v.initial.workers v.initial.token v.writer_steps w.writer_steps
+    → AreChecked v.initial w.writer_steps
+    → IsNewestChecked v.writer_steps (initial_state_of v.initial) (initial_state_of w.initial) w.writer_steps
 synchronize_checked v w sees h are =
     let same : w.initial ≡ v.initial = ap (λ (x : View). x.initial) sees in
-    subst (λ (o : InitialData). IsNewestChecked v.seen (initial_state_of v.initial) (initial_state_of o) w.seen) (sym same)
-    (newest_checked v.initial v.seen w.seen h are)
+    subst (λ (o : InitialData). IsNewestChecked v.writer_steps (initial_state_of v.initial) (initial_state_of o) w.writer_steps) (sym same)
+    (newest_checked v.initial v.writer_steps w.writer_steps h are)

@@ -188,9 +188,9 @@ synchronizes_later workers start x z h =
 
 -- one that was refused made no step
 pub synchronized_later : {E : Type 0} (workers start : ℕ) (v w : View) (r : Result (Unit {0}) E) → OnErr r (w ≡ v)
-    → OnOk r (Synchronizes workers start v.seen w.seen) → IsLater v.seen w.seen
-synchronized_later workers start v w (Ok done) same h = synchronizes_later workers start v.seen w.seen h
-synchronized_later workers start v w (Err none) same h = later_same v.seen w.seen (ap (λ (x : View). x.seen) same)
+    → OnOk r (Synchronizes workers start v.writer_steps w.writer_steps) → IsLater v.writer_steps w.writer_steps
+synchronized_later workers start v w (Ok done) same h = synchronizes_later workers start v.writer_steps w.writer_steps h
+synchronized_later workers start v w (Err none) same h = later_same v.writer_steps w.writer_steps (ap (λ (x : View). x.writer_steps) same)
 
 -- the same of the writer that callers see, and of the table that they name
 pub told_to : (Outcome : InitialData → WriterState → WriterState → Type 0) (freed : WriterState → List ℕ)
@@ -202,14 +202,14 @@ told_to Outcome freed w x y id is own led =
 
 -- The seat, which knew v, was lent to the memory m, after whose steps the control state `old` rested. A command has led from
 -- there to the control state `new` and the memory z.
-module _ (f s : ℕ) (old new : ControlState f s) (v : View) (m z : LentSeat) (first : SharedDid m (initial_state_of v.initial) v.seen)
+module _ (f s : ℕ) (old new : ControlState f s) (v : View) (m z : LentSeat) (first : SharedDid m (initial_state_of v.initial) v.writer_steps)
     (rested : IsRestingBy f s old v) where
   abbrev c : InitialState
   c = initial_state_of v.initial
 
   -- the seat is at the table t
   module _ (t : TableId) (at : m.table ≡ t) (knew : m.view ≡ v) (limits : new.config ≡ old.config)
-      (lawful : AreLawful z.view.initial z.view.seen) (low : (state_of_lent z).token ≤ 2 ^ 62) where
+      (lawful : AreLawful z.view.initial z.view.writer_steps) (low : (state_of_lent z).token ≤ 2 ^ 62) where
     abbrev before : WriterState
     before = writer_by t old v
 
@@ -221,7 +221,7 @@ module _ (f s : ℕ) (old new : ControlState f s) (v : View) (m z : LentSeat) (f
           → IsReady f s new w × Leads K freed v.initial before (writer_by t' new w)
 
     abbrev before_traced : State (WithSteps LentSeat)
-    before_traced = state_of old.rules.rules (m, v.seen) old.pool old.versions
+    before_traced = state_of old.rules.rules (m, v.writer_steps) old.pool old.versions
 
     abbrev after_traced : List WriterStep → State (WithSteps LentSeat)
     after_traced later = state_of new.rules.rules (z, later) new.pool new.versions
@@ -249,8 +249,8 @@ module _ (f s : ℕ) (old new : ControlState f s) (v : View) (m z : LentSeat) (f
       }
 
       came : (K : InitialData → WriterState → WriterState → Type 0) (freed : WriterState → List ℕ) (started : ℕ)
-          → K v.initial before then → kept z ≡ same → IsLater v.seen later
-          → Leaves c v.seen later before.table.limbo started (freed before) then.table.limbo → Came K freed
+          → K v.initial before then → kept z ≡ same → IsLater v.writer_steps later
+          → Leaves c v.writer_steps later before.table.limbo started (freed before) then.table.limbo → Came K freed
       came K freed started outcome stay goes_on leaves = record {
         name = ap (λ (k : Kept). k.0) stay;
         at_seat = λ t' w there knows.
@@ -281,12 +281,12 @@ module _ (f s : ℕ) (old new : ControlState f s) (v : View) (m z : LentSeat) (f
         (λ _. freed)
     unfolding by_steps
     added p hop r told links =
-        let h = told c v.seen first rested in
+        let h = told c v.writer_steps first rested in
         let z_table = (then h.0 h.1 h.2).table in
         let alone = adds_alone LentSeat does_in c Kept kept stays same f s old.config before_traced
         (after_traced h.0) same_at_first p hop r h.3 in
         let left = adds_leave c f s old.config before.table p hop r z_table alone.0 in
-        let least = takes_least f s v.initial v.seen h.0 old.config new.config old.rules new.rules old.pool new.pool
+        let least = takes_least f s v.initial v.writer_steps h.0 old.config new.config old.rules new.rules old.pool new.pool
         old.versions new.versions rested h.2 links in (
           left.1,
           came h.0 h.1 h.2 _ (λ _. left.1) left.0 (alone.0, least) alone.1
@@ -298,7 +298,7 @@ module _ (f s : ℕ) (old new : ControlState f s) (v : View) (m z : LentSeat) (f
         → (freed : List ℕ) × Came (λ o x y. Deletes (by_steps o) f s x.config x.table p r y.table) (λ _. freed)
     unfolding by_steps
     deleted p r told =
-        let h = told c v.seen first rested in
+        let h = told c v.writer_steps first rested in
         let z_table = (then h.0 h.1 h.2).table in
         let alone = deletes_alone LentSeat does_in c Kept kept stays same f s old.config before_traced
         (after_traced h.0) same_at_first p r h.3 in
@@ -313,7 +313,7 @@ module _ (f s : ℕ) (old new : ControlState f s) (v : View) (m z : LentSeat) (f
         → (freed : List ℕ) × Came (λ o x y. Flushes (by_steps o) f s x.config x.table r y.table) (λ _. freed)
     unfolding by_steps
     flushed r told =
-        let h = told c v.seen first rested in
+        let h = told c v.writer_steps first rested in
         let z_table = (then h.0 h.1 h.2).table in
         let alone = flushes_alone LentSeat does_in c Kept kept stays same f s old.config before_traced
         (after_traced h.0) same_at_first r h.3 in
@@ -328,10 +328,10 @@ module _ (f s : ℕ) (old new : ControlState f s) (v : View) (m z : LentSeat) (f
         → Came (λ o x y. Frees (by_steps o) x.table max r y.table) (λ x. take r.freed x.table.limbo)
     unfolding by_steps
     freed max r told =
-        let h = told c v.seen first rested in
+        let h = told c v.writer_steps first rested in
         let z_table = (then h.0 h.1 h.2).table in
         let alone = frees_alone LentSeat does_in c Kept kept stays same f s old.config before_traced
         (after_traced h.0) same_at_first max r h.3 in
         came h.0 h.1 h.2 _ (λ x. take r.freed x.table.limbo) 0 alone.0 alone.1
         (frees_later _ (steps_go_on c.workers c.token) before.table z_table max r alone.0)
-        (reclaims_leave c v.seen h.0 max before.table.limbo r.freed r.stopped z_table.limbo alone.0.0)
+        (reclaims_leave c v.writer_steps h.0 max before.table.limbo r.freed r.stopped z_table.limbo alone.0.0)

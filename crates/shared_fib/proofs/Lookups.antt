@@ -71,19 +71,19 @@ finished_more addr hop lo hi p q l history =
     let c : InitialState = initial_state q.table in
     let f : AddressLookup = record l.found { addr = addr } in
     let begin : WorkerStep × ℕ = (BeginLookup (addr ∷ []) l.low, l.begins) in
-    let end : WorkerStep × ℕ = (EndLookup l.high, length q.seen) in
-    let placed : ArePlaced c q.seen ((end ∷ (loads_at f.word f.first f.second ++ begin ∷ [])) ++ p.steps) =
-    subst (ArePlaced c q.seen) l.steps.steps history.placed in
-    let again : ArePlaced c q.seen ((end ∷ loads_at f.word f.first f.second) ++ begin ∷ p.steps) =
-    subst (ArePlaced c q.seen) (append_assoc (end ∷ loads_at f.word f.first f.second) (begin ∷ []) p.steps) placed in
-    let began = placed_at c q.seen (end ∷ loads_at f.word f.first f.second) begin p.steps again in
+    let end : WorkerStep × ℕ = (EndLookup l.high, length q.writer_steps) in
+    let placed : ArePlaced c q.writer_steps ((end ∷ (loads_at f.word f.first f.second ++ begin ∷ [])) ++ p.steps) =
+    subst (ArePlaced c q.writer_steps) l.steps.steps history.placed in
+    let again : ArePlaced c q.writer_steps ((end ∷ loads_at f.word f.first f.second) ++ begin ∷ p.steps) =
+    subst (ArePlaced c q.writer_steps) (append_assoc (end ∷ loads_at f.word f.first f.second) (begin ∷ []) p.steps) placed in
+    let began = placed_at c q.writer_steps (end ∷ loads_at f.word f.first f.second) begin p.steps again in
     let ended = placed.0 in
-    let then = counts c (oldest l.begins q.seen) (written_then c q.seen l.begins history.written) in
-    let now = counts c q.seen history.written in
+    let then = counts c (oldest l.begins q.writer_steps) (written_then c q.writer_steps l.begins history.written) in
+    let now = counts c q.writer_steps history.written in
     let lo_is : done_at l.low ≡ lo = ap done_at began.2 ∙ (then.done_is ∙ sym l.done_then) in
-    let hi_is : begun_at l.high ≡ hi = ap begun_at (ended.2 ∙ ap (λ (w : TableState). w.sequence) (at_now c q.seen)) ∙ (now.begun_is ∙ sym l.begun_then) in
+    let hi_is : begun_at l.high ≡ hi = ap begun_at (ended.2 ∙ ap (λ (w : TableState). w.sequence) (at_now c q.writer_steps)) ∙ (now.begun_is ∙ sym l.begun_then) in
     ap (λ (own : List (WorkerStep × ℕ)). (worker_by own).finished) l.steps.steps
-    ∙ (replayed addr l.low l.high f.word f.first l.begins (length q.seen) f.hop p.steps f.second l.answer.exact
+    ∙ (replayed addr l.low l.high f.word f.first l.begins (length q.writer_steps) f.hop p.steps f.second l.answer.exact
     ∙ λ i. seen_of (lo_is i) (hi_is i) f ∷ (worker_by p.steps).finished)
 
 -- ---- places of its steps
@@ -109,11 +109,11 @@ first_load P word first (Some second) all =
 
 -- the first word is loaded after all that the pass had seen before
 pub words_after : (addr : ℕ) (hop : Option ℕ) (lo hi : ℕ) (p q : PassState) (l : LooksUp addr hop lo hi p q)
-    → length p.seen ≤ l.found.first
+    → length p.writer_steps ≤ l.found.first
 words_after addr hop lo hi p q l =
-    let is : WorkerStep × ℕ → Type 0 = λ s. (length p.seen ≤ s.1) × (s.1 ≤ length q.seen) in
+    let is : WorkerStep × ℕ → Type 0 = λ s. (length p.writer_steps ≤ s.1) × (s.1 ≤ length q.writer_steps) in
     let begin : WorkerStep × ℕ = (BeginLookup (addr ∷ []) l.low, l.begins) in
-    let end : WorkerStep × ℕ = (EndLookup l.high, length q.seen) in
+    let end : WorkerStep × ℕ = (EndLookup l.high, length q.writer_steps) in
     let loads = all_front is (loads_at l.found.word l.found.first l.found.second) (begin ∷ [])
     (All-tail is end (loads_at l.found.word l.found.first l.found.second ++ begin ∷ []) l.steps.places) in
     (first_load is l.found.word l.found.first l.found.second loads).0
@@ -141,13 +141,13 @@ one_alone addr hop lo hi p q h = record {
   begins = h.begins;
   found = h.found ∷ [];
   high = h.high;
-  steps = subst (λ (loads : List (WorkerStep × ℕ)). Makes ((EndLookup h.high, length q.seen) ∷ (loads ++ (BeginLookup (addr ∷ []) h.low, h.begins) ∷ [])) p q)
+  steps = subst (λ (loads : List (WorkerStep × ℕ)). Makes ((EndLookup h.high, length q.writer_steps) ∷ (loads ++ (BeginLookup (addr ∷ []) h.low, h.begins) ∷ [])) p q)
       (sym (both_loads h.found.word h.found.first h.found.second)) h.steps;
   addrs_are = ap (λ (a : ℕ). a ∷ []) h.result.0;
   hops_are = ap (λ (x : Option ℕ). x ∷ []) h.result.1;
   done_then = h.done_then;
   begun_then = h.begun_then;
-  answers = All-cons (IsAnswered p.table q.seen lo hi) h.found [] h.answer (All-nil (IsAnswered p.table q.seen lo hi));
+  answers = All-cons (IsAnswered p.table q.writer_steps lo hi) h.found [] h.answer (All-nil (IsAnswered p.table q.writer_steps lo hi));
 }
 
 -- the addresses up to `at` were answered, and then those of one piece more

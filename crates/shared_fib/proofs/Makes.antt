@@ -24,35 +24,35 @@ use Rattle.shared_fib.proofs.Versions.{beginning_of, counts, written_then, kept}
 
 -- what a view gains by these steps
 pub record Made (made : List (WorkerStep × ℕ)) (v w : View) : Type 0 where
-  pub own : w.own ≡ made ++ v.own
-  pub places : All (λ s. (length v.seen ≤ s.1) × (s.1 ≤ length w.seen)) made
-  pub seen : IsLater v.seen w.seen
+  pub own_steps : w.own_steps ≡ made ++ v.own_steps
+  pub places : All (λ s. (length v.writer_steps ≤ s.1) × (s.1 ≤ length w.writer_steps)) made
+  pub writer_steps : IsLater v.writer_steps w.writer_steps
   pub initial : w.initial ≡ v.initial
 
 pub made_none : (v w : View) → w ≡ v → Made [] v w
 made_none v w same = record {
-  own = ap (λ (x : View). x.own) same;
-  places = All-nil (λ (s : WorkerStep × ℕ). (length v.seen ≤ s.1) × (s.1 ≤ length w.seen));
-  seen = subst (λ (x : View). IsLater v.seen x.seen) (sym same) ([], refl);
+  own_steps = ap (λ (x : View). x.own_steps) same;
+  places = All-nil (λ (s : WorkerStep × ℕ). (length v.writer_steps ≤ s.1) × (s.1 ≤ length w.writer_steps));
+  writer_steps = subst (λ (x : View). IsLater v.writer_steps x.writer_steps) (sym same) ([], refl);
   initial = ap (λ (x : View). x.initial) same;
 }
 
 -- one more step
 pub made_more : (made : List (WorkerStep × ℕ)) (s : WorkerStep) (v u w : View) → Made made v u → (g : Gains s u w)
-    → Made ((s, length g.seen) ∷ made) v w
+    → Made ((s, length g.writer_steps) ∷ made) v w
 made_more made s v u w m g =
     let on : GoesOn u w = gains_on s u w g in
-    let here : ℕ = length g.seen in
-    let same : w.seen ≡ g.seen = ap (λ (x : View). x.seen) g.view in
-    let is : WorkerStep × ℕ → Type 0 = λ x. (length v.seen ≤ x.1) × (x.1 ≤ length w.seen) in
-    let old : length v.seen ≤ length u.seen = later_longer v.seen u.seen m.seen in
-    let new_on : length u.seen ≤ length w.seen = later_longer u.seen w.seen on.later in
-    let count : length w.seen ≡ here = ap length same in
+    let here : ℕ = length g.writer_steps in
+    let same : w.writer_steps ≡ g.writer_steps = ap (λ (x : View). x.writer_steps) g.view in
+    let is : WorkerStep × ℕ → Type 0 = λ x. (length v.writer_steps ≤ x.1) × (x.1 ≤ length w.writer_steps) in
+    let old : length v.writer_steps ≤ length u.writer_steps = later_longer v.writer_steps u.writer_steps m.writer_steps in
+    let new_on : length u.writer_steps ≤ length w.writer_steps = later_longer u.writer_steps w.writer_steps on.later in
+    let count : length w.writer_steps ≡ here = ap length same in
     record {
-      own = ap (λ (x : View). x.own) g.view ∙ ap (λ (l : List (WorkerStep × ℕ)). (s, here) ∷ l) m.own;
+      own_steps = ap (λ (x : View). x.own_steps) g.view ∙ ap (λ (l : List (WorkerStep × ℕ)). (s, here) ∷ l) m.own_steps;
       places = All-cons is (s, here) made (omega (arith, old, new_on, count), omega (arith, count))
           (λ i d low. let h = m.places i d low in (h.0, omega (arith, h.1, new_on)));
-      seen = later_trans v.seen u.seen w.seen m.seen on.later;
+      writer_steps = later_trans v.writer_steps u.writer_steps w.writer_steps m.writer_steps on.later;
       initial = ap (λ (x : View). x.initial) on.same ∙ m.initial;
     }
 
@@ -69,17 +69,17 @@ state s online = record {
   table = record { words = s.table; initial = s.view.initial };
   worker = s.worker;
   online = online;
-  steps = s.view.own;
-  seen = s.view.seen;
+  steps = s.view.own_steps;
+  writer_steps = s.view.writer_steps;
 }
 
 pub makes : (on on' : Bool) (made : List (WorkerStep × ℕ)) (s s' : WorkerAt) (p : PassState) → state s on ≡ p
     → s'.table ≡ s.table → s'.worker ≡ s.worker → Made made s.view s'.view → Makes made p (state s' on')
 makes on on' made s s' p is table worker m =
     subst (λ (q : PassState). Makes made q (state s' on')) is (record {
-      steps = m.own;
+      steps = m.own_steps;
       places = m.places;
-      seen = m.seen;
+      writer_steps = m.writer_steps;
       table = λ i. record { words = table i; initial = m.initial i };
       worker = worker;
     })
@@ -89,8 +89,8 @@ pub makes_one : (on on' : Bool) (r : WorkerStep) (s s' : WorkerAt) (p : PassStat
     → s'.table ≡ s.table → s'.worker ≡ s.worker → GainsAll (r ∷ []) s.view s'.view
     → (place : ℕ) × Makes ((r, place) ∷ []) p (state s' on')
 makes_one on on' r s s' p is table worker g = (
-  length g.2.seen,
-  makes on on' ((r, length g.2.seen) ∷ []) s s' p is table worker
+  length g.2.writer_steps,
+  makes on on' ((r, length g.2.writer_steps) ∷ []) s s' p is table worker
       (made_more [] r s.view g.0 s'.view (made_none s.view g.0 g.1) g.2),
 )
 
@@ -99,11 +99,11 @@ pub makes_two : (on on' : Bool) (r t : ℕ → WorkerStep) (s s' : WorkerAt) (p 
     → (token : ℕ) × (first : ℕ) × (last : ℕ) × Makes ((t token, last) ∷ (r token, first) ∷ []) p (state s' on')
 makes_two on on' r t s s' p is table worker steps =
     let g : GainsAll (t steps.0 ∷ r steps.0 ∷ []) s.view s'.view = steps.1 in
-    let first : ℕ = length g.1.2.seen in (
+    let first : ℕ = length g.1.2.writer_steps in (
       steps.0,
       first,
-      length g.2.seen,
-      makes on on' ((t steps.0, length g.2.seen) ∷ (r steps.0, first) ∷ []) s s' p is table worker
+      length g.2.writer_steps,
+      makes on on' ((t steps.0, length g.2.writer_steps) ∷ (r steps.0, first) ∷ []) s s' p is table worker
           (made_more ((r steps.0, first) ∷ []) (t steps.0) s.view g.0 s'.view
           (made_more [] (r steps.0) s.view g.1.0 g.0 (made_none s.view g.1.0 g.1.1) g.1.2) g.2),
     )
@@ -154,30 +154,30 @@ module _ (addrs : List ℕ) (lo hi : ℕ) (v b u w : View) (around : LoadsAround
   c = initial_state_of v.initial
 
   abbrev all_steps : List (WorkerStep × ℕ)
-  all_steps = (EndLookup around.high, length w.seen) ∷ (loads ++ (BeginLookup addrs around.low, length around.begins.seen) ∷ [])
+  all_steps = (EndLookup around.high, length w.writer_steps) ∷ (loads ++ (BeginLookup addrs around.low, length around.begins.writer_steps) ∷ [])
 
   made : Made all_steps v w
   made = made_at all_steps v w (
     u,
-    goes_at loads ((BeginLookup addrs around.low, length around.begins.seen) ∷ []) v b u steps (v, refl, around.begins, refl),
+    goes_at loads ((BeginLookup addrs around.low, length around.begins.writer_steps) ∷ []) v b u steps (v, refl, around.begins, refl),
     around.ends,
-    ap (λ (x : View). length x.seen) around.ends.view,
+    ap (λ (x : View). length x.writer_steps) around.ends.view,
   )
 
-  written : IsWritten c w.seen
-  written = subst (λ (o : InitialData). IsWritten (initial_state_of o) w.seen) made.initial known.written
+  written : IsWritten c w.writer_steps
+  written = subst (λ (o : InitialData). IsWritten (initial_state_of o) w.writer_steps) made.initial known.written
 
-  done_then : lo ≡ updates_done (oldest (length around.begins.seen) w.seen)
+  done_then : lo ≡ updates_done (oldest (length around.begins.writer_steps) w.writer_steps)
   done_then =
       let on : GoesOn b w = goes_on b u w (all_at loads b u steps) (gains_on (EndLookup around.high) u w around.ends) in
-      let seen_is : b.seen ≡ around.begins.seen = ap (λ (x : View). x.seen) around.begins.view in
-      let then : oldest (length around.begins.seen) w.seen ≡ b.seen =
-      ap (λ (l : List WriterStep). oldest (length l) w.seen) (sym seen_is) ∙ beginning_of b.seen w.seen on.later in
+      let seen_is : b.writer_steps ≡ around.begins.writer_steps = ap (λ (x : View). x.writer_steps) around.begins.view in
+      let then : oldest (length around.begins.writer_steps) w.writer_steps ≡ b.writer_steps =
+      ap (λ (l : List WriterStep). oldest (length l) w.writer_steps) (sym seen_is) ∙ beginning_of b.writer_steps w.writer_steps on.later in
       around.done_then ∙ (ap (λ (l : List WriterStep). updates_done_in (state_after c l)) (sym then)
-      ∙ (counts c (oldest (length around.begins.seen) w.seen) (written_then c w.seen (length around.begins.seen) written)).done_is)
+      ∙ (counts c (oldest (length around.begins.writer_steps) w.writer_steps) (written_then c w.writer_steps (length around.begins.writer_steps) written)).done_is)
 
-  begun_then : hi ≡ updates_begun w.seen
-  begun_then = around.begun_then ∙ (counts c w.seen written).begun_is
+  begun_then : hi ≡ updates_begun w.writer_steps
+  begun_then = around.begun_then ∙ (counts c w.writer_steps written).begun_is
 
 -- what a seat looks up its pass does
 pub looks_up : (on on' : Bool) (addr : ℕ) (hop : Option ℕ) (lo hi : ℕ) (s s' : WorkerAt) (p : PassState) → state s on ≡ p
@@ -190,14 +190,14 @@ looks_up on on' addr hop lo hi s s' p is table worker d known =
     let loads : List (WorkerStep × ℕ) = loads_at d.found.word d.found.first d.found.second in
     subst (λ (q : PassState). LooksUp addr hop lo hi q (state s' on')) is (record {
       low = a.low;
-      begins = length a.begins.seen;
+      begins = length a.begins.writer_steps;
       found = d.found;
       high = a.high;
       steps = makes on on' _ s s' (state s on) refl table worker (made (addr ∷ []) lo hi v d.started d.loaded w a loads d.steps known);
       result = d.answer;
       done_then = done_then (addr ∷ []) lo hi v d.started d.loaded w a loads d.steps known;
       begun_then = begun_then (addr ∷ []) lo hi v d.started d.loaded w a loads d.steps known;
-      answer = is_answered s.table v.initial w.seen lo hi d.found
+      answer = is_answered s.table v.initial w.writer_steps lo hi d.found
           (written (addr ∷ []) lo hi v d.started d.loaded w a loads d.steps known) d.exact d.legal;
     })
 
@@ -213,7 +213,7 @@ looks_up_all on on' addrs hops lo hi s s' p is table worker d known =
     let lawful = written addrs lo hi v d.started d.loaded w a loads d.steps known in
     subst (λ (q : PassState). LooksUpAll addrs hops lo hi q (state s' on')) is (record {
       low = a.low;
-      begins = length a.begins.seen;
+      begins = length a.begins.writer_steps;
       found = d.found;
       high = a.high;
       steps = makes on on' _ s s' (state s on) refl table worker (made addrs lo hi v d.started d.loaded w a loads d.steps known);
@@ -221,5 +221,5 @@ looks_up_all on on' addrs hops lo hi s s' p is table worker d known =
       hops_are = d.hops_are;
       done_then = done_then addrs lo hi v d.started d.loaded w a loads d.steps known;
       begun_then = begun_then addrs lo hi v d.started d.loaded w a loads d.steps known;
-      answers = λ k f low. is_answered s.table v.initial w.seen lo hi (get_or d.found k f) lawful (d.exact k f low) (d.legal k f low);
+      answers = λ k f low. is_answered s.table v.initial w.writer_steps lo hi (get_or d.found k f) lawful (d.exact k f low) (d.legal k f low);
     })

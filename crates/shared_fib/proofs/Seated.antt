@@ -65,15 +65,15 @@ newest_passed o x z (Ok u) past are h =
 
 -- the same of a seat that made the check
 module _ (v w : View) (sees : OnlySees v w) (r : Result (Unit {0}) Busy)
-    (h : Checks v.initial.workers v.seen (token_by v) r w.seen) where
+    (h : Checks v.initial.workers v.writer_steps (token_by v) r w.writer_steps) where
   pub seat_token_stays : token_by w ≡ token_by v
   seat_token_stays =
-      ap (λ (x : View). token_after x.initial.token w.seen) sees
-      ∙ token_stays (initial_state_of v.initial) v.seen w.seen r h
+      ap (λ (x : View). token_after x.initial.token w.writer_steps) sees
+      ∙ token_stays (initial_state_of v.initial) v.writer_steps w.writer_steps r h
 
-  pub seat_passed : 0 < token_by v → AreChecked w.initial w.seen
-      → OnOk r (IsChecked v.initial.workers v.initial.token w.seen (token_by v))
-  seat_passed past are = newest_passed v.initial v.seen w.seen r past (looked v w sees are) h
+  pub seat_passed : 0 < token_by v → AreChecked w.initial w.writer_steps
+      → OnOk r (IsChecked v.initial.workers v.initial.token w.writer_steps (token_by v))
+  seat_passed past are = newest_passed v.initial v.writer_steps w.writer_steps r past (looked v w sees are) h
 
 -- A table whose writer's control state rests is at rest.
 
@@ -107,7 +107,7 @@ abbrev pub does_in : LentSeat → WriterStep → LentSeat → Type 0
 does_in m s z = SharedDoes s m z
 
 abbrev pub unseeing : View → View
-unseeing v = record v { seen = [] }
+unseeing v = record v { writer_steps = [] }
 
 -- what no step changes
 abbrev pub Kept : Type 0
@@ -121,14 +121,14 @@ stays m s z does = λ i. (does.name i, (does.table i, ap unseeing does.view i))
 
 -- the memory's steps are these, and it has kept the rest
 pub only_sees : (m z : LentSeat) → kept z ≡ kept m → OnlySees m.view z.view
-only_sees m z same = ap (λ (k : Kept). record k.1.1 { seen = z.view.seen }) same
+only_sees m z same = ap (λ (k : Kept). record k.1.1 { writer_steps = z.view.writer_steps }) same
 
 -- where a control state rests by the steps of the memory, it does by what the memory knows
 pub rests_after : (K : InitialState → List WriterStep → Type 0) (z : LentSeat) (c : InitialState) (later : List WriterStep)
-    → SharedDid z c later → K c later → K (initial_state_of z.view.initial) z.view.seen
+    → SharedDid z c later → K c later → K (initial_state_of z.view.initial) z.view.writer_steps
 rests_after K z c later did rests =
     subst (λ (x : InitialState × List WriterStep). K x.0 x.1) (λ i. (did.initial i, did.steps_are i)) rests
 
 pub outcome_after : (K : List WriterStep → Type 0) (z : LentSeat) (c : InitialState) (later : List WriterStep)
-    → SharedDid z c later → K later → K z.view.seen
+    → SharedDid z c later → K later → K z.view.writer_steps
 outcome_after K z c later did outcome = subst K did.steps_are outcome

@@ -19,7 +19,7 @@ module _ (words : TableId) (v : View) where
     worker = k;
     online = false;
     steps = [];
-    seen = v.seen;
+    writer_steps = v.writer_steps;
   }
 
   -- the passes of the first n workers

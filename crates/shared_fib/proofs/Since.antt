@@ -180,11 +180,11 @@ pub passes_never_go_back : PassesNeverGoBack
 passes_never_go_back p newer older earlier later history split h same =
     let c : InitialState = initial_state p.table in
     let rising : Rising (newer ++ older) = subst Rising split history.rising in
-    let placed : ArePlaced c p.seen (newer ++ older) = subst (ArePlaced c p.seen) split history.placed in
-    let legal : All (IsLegalAtPlace c p.seen) (h.since ++ (worker_by older).finished) =
-    subst (All (IsLegalAtPlace c p.seen)) (ap (λ (steps : List (WorkerStep × ℕ)). (worker_by steps).finished) split ∙ h.split) history.legal in
-    let old = at_place (IsLegalAtPlace c p.seen) (worker_by older).finished h.before.0 earlier h.before.1
-    (all_back (IsLegalAtPlace c p.seen) h.since (worker_by older).finished legal) in
-    let new = at_place (IsLegalAtPlace c p.seen) h.since h.after.0 later h.after.1
-    (all_front (IsLegalAtPlace c p.seen) h.since (worker_by older).finished legal) in
-    in_order c p.seen earlier later old new (apart c p.seen newer older earlier later rising placed h) same
+    let placed : ArePlaced c p.writer_steps (newer ++ older) = subst (ArePlaced c p.writer_steps) split history.placed in
+    let legal : All (IsLegalAtPlace c p.writer_steps) (h.since ++ (worker_by older).finished) =
+    subst (All (IsLegalAtPlace c p.writer_steps)) (ap (λ (steps : List (WorkerStep × ℕ)). (worker_by steps).finished) split ∙ h.split) history.legal in
+    let old = at_place (IsLegalAtPlace c p.writer_steps) (worker_by older).finished h.before.0 earlier h.before.1
+    (all_back (IsLegalAtPlace c p.writer_steps) h.since (worker_by older).finished legal) in
+    let new = at_place (IsLegalAtPlace c p.writer_steps) h.since h.after.0 later h.after.1
+    (all_front (IsLegalAtPlace c p.writer_steps) h.since (worker_by older).finished legal) in
+    in_order c p.writer_steps earlier later old new (apart c p.writer_steps newer older earlier later rising placed h) same

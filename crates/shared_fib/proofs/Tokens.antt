@@ -58,11 +58,11 @@ module _ (f s : ℕ) (old new : ControlState f s) (v w : View) (m z : LentSeat) 
     pub table : z.table ≡ m.table
 
   pub starts : {E : Type 0} (r : Result (Unit {0}) E) → IsErr r ↔ (2 ^ 62 < (state_of_lent m).token + new.config.groups)
-      → OnOk r ((later : List WriterStep) × SharedDid z c later × traced.Goes does_in (m, v.seen) BumpToken (z, later) × Waits c later)
+      → OnOk r ((later : List WriterStep) × SharedDid z c later × traced.Goes does_in (m, v.writer_steps) BumpToken (z, later) × Waits c later)
       → OnErr r (z ≡ m) → Starts r
   starts r exhausted came same = record {
     exhausted = subst (λ (x : View). IsErr r ↔ (2 ^ 62 < token_by x + new.config.groups)) knew
-        (exhausted_by (initial_state_of m.view.initial) m.view.seen (IsErr r) new.config.groups exhausted);
+        (exhausted_by (initial_state_of m.view.initial) m.view.writer_steps (IsErr r) new.config.groups exhausted);
     started = on_ok_then r came (λ h. sym knows ∙ h.2.0.view ∙ ap (λ (x : View). with_step x BumpToken) knew);
     waits = on_ok_then r came (λ h. in_grace h.0 h.1 h.3);
     untouched = on_err_then r same (λ is. sym knows ∙ ap (λ (l : LentSeat). l.view) is ∙ knew);
@@ -72,37 +72,37 @@ module _ (f s : ℕ) (old new : ControlState f s) (v w : View) (m z : LentSeat) 
   -- ---- a check
 
   pub record ChecksOnce (r : Result (Unit {0}) Busy) (x : View) : Type 0 where
-    pub checks : Checks v.initial.workers v.seen (token_by v) r x.seen
+    pub checks : Checks v.initial.workers v.writer_steps (token_by v) r x.writer_steps
     pub token : token_by x ≡ token_by v
-    pub checked : OnOk r (IsChecked v.initial.workers v.initial.token x.seen (token_by v))
+    pub checked : OnOk r (IsChecked v.initial.workers v.initial.token x.writer_steps (token_by v))
     pub queued : OnOk r (0 < old.config.workers → All (λ token. token ≤ passed_by x) (tokens_of new.pool.queue.items))
     pub ready : OnOk r (IsReady f s new x)
     pub waits : OnErr r (IsInGrace f s new w)
     pub table : z.table ≡ m.table
     pub view : OnlySees v x
 
-  pub checks_once : (r : Result (Unit {0}) Busy) → kept z ≡ kept m → 0 < token_by v → AreLawful z.view.initial z.view.seen
+  pub checks_once : (r : Result (Unit {0}) Busy) → kept z ≡ kept m → 0 < token_by v → AreLawful z.view.initial z.view.writer_steps
       → (later : List WriterStep) × SharedDid z c later
-      × traced.Checks does_in c (m, v.seen) (state_of_lent m).token r (z, later)
+      × traced.Checks does_in c (m, v.writer_steps) (state_of_lent m).token r (z, later)
       × OnOk r (Rests c later) × OnErr r (Waits c later)
       → OnOk r (All (λ (item : ℕ × ℕ). item.1 ≤ new.pool.passed) new.pool.queue.items)
       → new ≡ record old { pool = record old.pool { passed = new.pool.passed } } → ChecksOnce r w
   checks_once r still past lawful came queued same =
       let token : ℕ = (state_of_lent m).token in
       let sees : OnlySees v z.view = subst (λ (x : View). OnlySees x z.view) knew (only_sees m z still) in
-      let by_steps : Checks v.initial.workers v.seen (token_by v) r z.view.seen =
-      subst (λ (t : ℕ). Checks c.workers v.seen t r z.view.seen)
-      (ap (λ (x : View). (state_of_view x).token) knew ∙ token_is c v.seen)
-      (outcome_after (Checks c.workers v.seen token r) z c came.0 came.1
-      (checks_alone LentSeat does_in c (m, v.seen) (z, came.0) token r came.2)) in
-      let rests : OnOk r (Rests (initial_state_of z.view.initial) z.view.seen) =
+      let by_steps : Checks v.initial.workers v.writer_steps (token_by v) r z.view.writer_steps =
+      subst (λ (t : ℕ). Checks c.workers v.writer_steps t r z.view.writer_steps)
+      (ap (λ (x : View). (state_of_view x).token) knew ∙ token_is c v.writer_steps)
+      (outcome_after (Checks c.workers v.writer_steps token r) z c came.0 came.1
+      (checks_alone LentSeat does_in c (m, v.writer_steps) (z, came.0) token r came.2)) in
+      let rests : OnOk r (Rests (initial_state_of z.view.initial) z.view.writer_steps) =
       on_ok_then r came.3 (rests_after Rests z c came.0 came.1) in
       subst (ChecksOnce r) knows (record {
         checks = by_steps;
         token = seat_token_stays v z.view sees r by_steps;
         checked = seat_passed v z.view sees r by_steps past lawful.checked;
         queued = on_ok_both r rests queued (λ rest all some.
-            queued_passed f s (initial_state_of z.view.initial) z.view.seen new.config new.rules new.pool new.versions rest all
+            queued_passed f s (initial_state_of z.view.initial) z.view.writer_steps new.config new.rules new.pool new.versions rest all
             (subst (λ (l : ControlState f s). 0 < l.config.workers) (sym same) some));
         ready = on_ok_then r rests (λ rest. record { rests = rest; token = low });
         waits = on_err_then r came.4 (in_grace came.0 came.1);

@@ -28,36 +28,36 @@ use Rattle.shared_fib.proofs.Seated.{Kept, kept, does_in, stays}
 -- the newest token was started last in m, and each check of it since was stopped
 pub record HasWaited (m z : LentSeat) : Type 0 where
   pub stops : ℕ
-  pub did : SharedDid z (initial_state_of m.view.initial) z.view.seen
+  pub did : SharedDid z (initial_state_of m.view.initial) z.view.writer_steps
   pub same : kept z ≡ kept m
-  pub stopped : AreStopped m.view.initial.workers stops m.view.seen (state_of_lent m).token z.view.seen
+  pub stopped : AreStopped m.view.initial.workers stops m.view.writer_steps (state_of_lent m).token z.view.writer_steps
 
 module _ (m : LentSeat) where
   abbrev c : InitialState
   c = initial_state_of m.view.initial
 
-  pub not_yet : SharedDid m c m.view.seen → HasWaited m m
+  pub not_yet : SharedDid m c m.view.writer_steps → HasWaited m m
   not_yet did = record { stops = 0; did = did; same = refl; stopped = refl }
 
   -- one more check
   module _ (y z : LentSeat) (so_far : HasWaited m y) (later : List WriterStep) (did : SharedDid z c later) where
     abbrev IsChecked : Result (Unit {0}) Busy → Type 0
-    IsChecked r = Checks does_in c (y, y.view.seen) (state_of_lent y).token r (z, later)
+    IsChecked r = Checks does_in c (y, y.view.writer_steps) (state_of_lent y).token r (z, later)
 
     token_same : (state_of_lent y).token ≡ (state_of_lent m).token
-    token_same = (shared_shows y c y.view.seen so_far.did).1
-        ∙ stopped_token c so_far.stops m.view.seen (state_of_lent m).token y.view.seen so_far.stopped
+    token_same = (shared_shows y c y.view.writer_steps so_far.did).1
+        ∙ stopped_token c so_far.stops m.view.writer_steps (state_of_lent m).token y.view.writer_steps so_far.stopped
 
     alone : (r : Result (Unit {0}) Busy) → IsChecked r
-        → by_steps.Checks c.workers y.view.seen (state_of_lent m).token r z.view.seen
+        → by_steps.Checks c.workers y.view.writer_steps (state_of_lent m).token r z.view.writer_steps
     alone r checks =
-        subst (λ t. by_steps.Checks c.workers y.view.seen t r z.view.seen) token_same
-        (subst (λ l. by_steps.Checks c.workers y.view.seen (state_of_lent y).token r l)
-        did.steps_are (checks_alone LentSeat does_in c (y, y.view.seen) (z, later) (state_of_lent y).token r checks))
+        subst (λ t. by_steps.Checks c.workers y.view.writer_steps t r z.view.writer_steps) token_same
+        (subst (λ l. by_steps.Checks c.workers y.view.writer_steps (state_of_lent y).token r l)
+        did.steps_are (checks_alone LentSeat does_in c (y, y.view.writer_steps) (z, later) (state_of_lent y).token r checks))
 
     pub still : (r : Result (Unit {0}) Busy) → IsChecked r → kept z ≡ kept m
     still r checks =
-        checks_fixed LentSeat does_in c Kept kept stays (y, y.view.seen) (z, later) (state_of_lent y).token r checks
+        checks_fixed LentSeat does_in c Kept kept stays (y, y.view.writer_steps) (z, later) (state_of_lent y).token r checks
         ∙ so_far.same
 
     pub once_more : (busy : Busy) → IsChecked (Err busy) → HasWaited m z
@@ -65,11 +65,11 @@ module _ (m : LentSeat) where
       stops = suc so_far.stops;
       did = subst (λ l. SharedDid z c l) did.steps_are did;
       same = still (Err busy) checks;
-      stopped = (y.view.seen, busy, so_far.stopped, alone (Err busy) checks);
+      stopped = (y.view.writer_steps, busy, so_far.stopped, alone (Err busy) checks);
     }
 
-    pub at_last : IsChecked (Ok tt) → PassesAtLast c m.view.seen z.view.seen
-    at_last checks = (so_far.stops, y.view.seen, so_far.stopped, alone (Ok tt) checks)
+    pub at_last : IsChecked (Ok tt) → PassesAtLast c m.view.writer_steps z.view.writer_steps
+    at_last checks = (so_far.stops, y.view.writer_steps, so_far.stopped, alone (Ok tt) checks)
 
 -- a token was started, and a check of it passed at last
 passes_at_last : (c : InitialState) (x z : List WriterStep) → PassesAtLast c (BumpToken ∷ x) z → Synchronizes c.workers c.token x z
@@ -83,11 +83,11 @@ passes_at_last c x z h =
     }
 
 pub synchronized : (m z : LentSeat) (later : List WriterStep) → SharedDoes BumpToken m z
-    → PassesAtLast (initial_state_of z.view.initial) z.view.seen later
-    → Synchronizes m.view.initial.workers m.view.initial.token m.view.seen later
+    → PassesAtLast (initial_state_of z.view.initial) z.view.writer_steps later
+    → Synchronizes m.view.initial.workers m.view.initial.token m.view.writer_steps later
 synchronized m z later does passes =
-    passes_at_last (initial_state_of m.view.initial) m.view.seen later
-    (subst (λ (v : View). PassesAtLast (initial_state_of v.initial) v.seen later) does.view passes)
+    passes_at_last (initial_state_of m.view.initial) m.view.writer_steps later
+    (subst (λ (v : View). PassesAtLast (initial_state_of v.initial) v.writer_steps later) does.view passes)
 
 -- no group that waits is held by a token that hasn't passed
 pub queued_passed : (first second : ℕ) (c : InitialState) (steps : List WriterStep) (config : Config)

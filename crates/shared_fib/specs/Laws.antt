@@ -68,7 +68,7 @@ abbrev pub PassesNeverGoBack : Type 0
 PassesNeverGoBack = (p : PassState) (newer older : List (WorkerStep × ℕ)) (earlier later : FinishedLookup)
     → IsHistory p → p.steps ≡ newer ++ older → IsFinishedSince newer older earlier later
     → earlier.addr ≡ later.addr
-    → AreInOrder (initial_state p.table) p.seen earlier later
+    → AreInOrder (initial_state p.table) p.writer_steps earlier later
 
 -- a lookup of one address or of several, with this `lo` and `hi`
 abbrev pub IsLookedUp : ℕ → ℕ → PassState → PassState → Type 0
@@ -80,5 +80,5 @@ IsLookedUp lo hi p q = ((addr : ℕ) × (hop : Option ℕ) × LooksUp addr hop l
 abbrev pub LookupsCountVersions : Type 0
 LookupsCountVersions = (writer : WriterState) (lo hi : ℕ) (p q : PassState) → IsAtRest writer
     → IsLookedUp lo hi p q → IsHistory q → q.table ≡ writer.identity
-    → p.seen ≡ steps_of writer → q.seen ≡ steps_of writer
+    → p.writer_steps ≡ steps_of writer → q.writer_steps ≡ steps_of writer
     → (lo ≡ writer.table.begun) × (hi ≡ writer.table.begun)

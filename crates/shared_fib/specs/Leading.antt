@@ -35,14 +35,14 @@ pub record Leads (Outcome : InitialData → WriterState → WriterState → Type
 
 -- after the steps of the seat the control state waits for its token
 abbrev pub WaitsBy : (first second : ℕ) → ControlState first second → View → Type 0
-WaitsBy first second control v = IsWaiting first second (initial_state_of v.initial) v.seen
+WaitsBy first second control v = IsWaiting first second (initial_state_of v.initial) v.writer_steps
     control.config control.rules control.pool control.versions
 
 -- the same, and neither the tokens nor the updates are past their bound
 pub record IsInGrace (first second : ℕ) (control : ControlState first second) (v : View) : Type 0 where
   pub waits : WaitsBy first second control v
-  pub token : (state_after (initial_state_of v.initial) v.seen).token ≤ 2 ^ 62
-  pub updates : updates_begun_in (state_after (initial_state_of v.initial) v.seen) ≤ 2 ^ 61
+  pub token : (state_after (initial_state_of v.initial) v.writer_steps).token ≤ 2 ^ 62
+  pub updates : updates_begun_in (state_after (initial_state_of v.initial) v.writer_steps) ≤ 2 ^ 61
 
 -- The checks of a token that was started, up to the first that passes (DPDK Programmer's Guide,
 -- "RCU Library", and `rte_rcu_qsbr_synchronize` of its API: the check is made again until each

@@ -26,14 +26,14 @@ coded_lent =
 
 -- what the steps of the view leave
 abbrev pub state_of_view : View → TableState
-state_of_view v = state_after (initial_state_of v.initial) v.seen
+state_of_view v = state_after (initial_state_of v.initial) v.writer_steps
 
 -- the token, and the greatest that has passed, by the steps of the view
 abbrev pub token_by : View → ℕ
-token_by v = token_after v.initial.token v.seen
+token_by v = token_after v.initial.token v.writer_steps
 
 abbrev pub passed_by : View → ℕ
-passed_by v = passed_after v.initial.workers v.seen
+passed_by v = passed_after v.initial.workers v.writer_steps
 
 abbrev pub state_of_lent : LentSeat → TableState
 state_of_lent m = state_of_view m.view
@@ -46,12 +46,12 @@ pub record IsAt (v : View) (token : ℕ) : Type 0 where
 
 -- the step may come next
 abbrev pub SharedMay : LentSeat → WriterStep → Type 0
-SharedMay m s = MayStep (initial_state_of m.view.initial) m.view.seen s
+SharedMay m s = MayStep (initial_state_of m.view.initial) m.view.writer_steps s
 
 -- the steps are those of the seat, each of which might come
 pub record SharedDid (m : LentSeat) (c : InitialState) (steps : List WriterStep) : Type 0 where
   pub initial : c ≡ initial_state_of m.view.initial
-  pub steps_are : steps ≡ m.view.seen
+  pub steps_are : steps ≡ m.view.writer_steps
   pub written : IsWritten c steps
 
 -- the seat has made one more step

@@ -31,13 +31,13 @@ pub record PassState : Type 0 where
   pub worker : ℕ
   pub online : Bool
   pub steps : List (WorkerStep × ℕ)
-  pub seen : List WriterStep
+  pub writer_steps : List WriterStep
 
 -- it made these steps at these places and no others, each after all that it had seen before
 pub record Makes (made : List (WorkerStep × ℕ)) (p q : PassState) : Type 0 where
   pub steps : q.steps ≡ made ++ p.steps
-  pub places : All (λ s. (length p.seen ≤ s.1) × (s.1 ≤ length q.seen)) made
-  pub seen : IsLater p.seen q.seen
+  pub places : All (λ s. (length p.writer_steps ≤ s.1) × (s.1 ≤ length q.writer_steps)) made
+  pub writer_steps : IsLater p.writer_steps q.writer_steps
   pub table : q.table ≡ p.table
   pub worker : q.worker ≡ p.worker
 
@@ -72,12 +72,12 @@ pub record LooksUp (addr : ℕ) (hop : Option ℕ) (lo hi : ℕ) (p q : PassStat
   pub begins : ℕ
   pub found : AddressLookup
   pub high : ℕ
-  pub steps : Makes ((EndLookup high, length q.seen)
+  pub steps : Makes ((EndLookup high, length q.writer_steps)
       ∷ (loads_at found.word found.first found.second ++ (BeginLookup (addr ∷ []) low, begins) ∷ [])) p q
   pub result : (found.addr ≡ addr) × (found.hop ≡ hop)
-  pub done_then : lo ≡ updates_done (oldest begins q.seen)
-  pub begun_then : hi ≡ updates_begun q.seen
-  pub answer : IsAnswered p.table q.seen lo hi found
+  pub done_then : lo ≡ updates_done (oldest begins q.writer_steps)
+  pub begun_then : hi ≡ updates_begun q.writer_steps
+  pub answer : IsAnswered p.table q.writer_steps lo hi found
 
 -- the addresses are looked up together: the sequence is loaded, a first word for each, a second word for
 -- each first word that is a group's, and the sequence again. Each has the answer of a version that stood
@@ -87,13 +87,13 @@ pub record LooksUpAll (addrs : List ℕ) (hops : List (Option ℕ)) (lo hi : ℕ
   pub begins : ℕ
   pub found : List AddressLookup
   pub high : ℕ
-  pub steps : Makes ((EndLookup high, length q.seen)
+  pub steps : Makes ((EndLookup high, length q.writer_steps)
       ∷ ((seconds_at found ++ firsts_at found) ++ (BeginLookup addrs low, begins) ∷ [])) p q
   pub addrs_are : map (λ (f : AddressLookup). f.addr) found ≡ addrs
   pub hops_are : map (λ (f : AddressLookup). f.hop) found ≡ hops
-  pub done_then : lo ≡ updates_done (oldest begins q.seen)
-  pub begun_then : hi ≡ updates_begun q.seen
-  pub answers : All (IsAnswered p.table q.seen lo hi) found
+  pub done_then : lo ≡ updates_done (oldest begins q.writer_steps)
+  pub begun_then : hi ≡ updates_begun q.writer_steps
+  pub answers : All (IsAnswered p.table q.writer_steps lo hi) found
 
 -- ---- what its steps are
 
@@ -101,11 +101,11 @@ pub record LooksUpAll (addrs : List ℕ) (hops : List (Option ℕ)) (lo hi : ℕ
 -- each of its own at its place; and each lookup that it has finished is legal
 pub record IsHistory (p : PassState) : Type 0 where
   pub online : (worker_by p.steps).phase ≡ phase_by p.online
-  pub written : IsWritten (initial_state p.table) p.seen
+  pub written : IsWritten (initial_state p.table) p.writer_steps
   pub rising : AllPairs (λ later earlier. earlier.1 ≤ later.1) p.steps
-  pub within : All (λ step. step.1 ≤ length p.seen) p.steps
-  pub placed : ArePlaced (initial_state p.table) p.seen p.steps
-  pub legal : All (IsLegalAtPlace (initial_state p.table) p.seen) (worker_by p.steps).finished
+  pub within : All (λ step. step.1 ≤ length p.writer_steps) p.steps
+  pub placed : ArePlaced (initial_state p.table) p.writer_steps p.steps
+  pub legal : All (IsLegalAtPlace (initial_state p.table) p.writer_steps) (worker_by p.steps).finished
 
 -- ---- the bench
 
@@ -136,6 +136,6 @@ abbrev pub coded_pass : Coded PassState
 coded_pass = code_by (Identity × (ℕ × (Bool × (List (WorkerStep × ℕ) × List WriterStep))))
     (coded× coded_identity (coded× coded_ℕ (coded× coded_bool
     (coded× (coded_list (coded× worker_row.the_row.coded coded_ℕ)) (coded_list writer_row.the_row.coded)))))
-    (λ p. (p.table, (p.worker, (p.online, (p.steps, p.seen)))))
-    (λ z. record { table = z.0; worker = z.1.0; online = z.1.1.0; steps = z.1.1.1.0; seen = z.1.1.1.1 })
+    (λ p. (p.table, (p.worker, (p.online, (p.steps, p.writer_steps)))))
+    (λ z. record { table = z.0; worker = z.1.0; online = z.1.1.0; steps = z.1.1.1.0; writer_steps = z.1.1.1.1 })
     (λ _. refl)

@@ -102,21 +102,21 @@ initial_writer id config rules = record {
 
 -- the control state with the steps that the seat knows
 abbrev pub state_by : {first second : ℕ} → ControlState first second → View → State (List WriterStep)
-state_by control v = state_of control.rules.rules v.seen control.pool control.versions
+state_by control v = state_of control.rules.rules v.writer_steps control.pool control.versions
 
 -- after the steps of the seat the control state rests
 abbrev pub IsRestingBy : (first second : ℕ) → ControlState first second → View → Type 0
-IsRestingBy first second control v = IsResting first second (initial_state_of v.initial) v.seen
+IsRestingBy first second control v = IsResting first second (initial_state_of v.initial) v.writer_steps
     control.config control.rules control.pool control.versions
 
 -- the same, and the tokens are not past their bound
 pub record IsReady (first second : ℕ) (control : ControlState first second) (v : View) : Type 0 where
   pub rests : IsRestingBy first second control v
-  pub token : (state_after (initial_state_of v.initial) v.seen).token ≤ 2 ^ 62
+  pub token : (state_after (initial_state_of v.initial) v.writer_steps).token ≤ 2 ^ 62
 
 -- of what the seat knows only the writer's steps have changed
 abbrev pub OnlySees : View → View → Type 0
-OnlySees v w = w ≡ record v { seen = w.seen }
+OnlySees v w = w ≡ record v { writer_steps = w.writer_steps }
 
 -- ---- its passes
 
@@ -126,7 +126,7 @@ phase_by false = Offline
 
 -- it is online or offline as the flag says
 abbrev pub IsPass : View → Bool → Type 0
-IsPass v online = (worker_by v.own).phase ≡ phase_by online
+IsPass v online = (worker_by v.own_steps).phase ≡ phase_by online
 
 -- the number of a next hop, or the default where there is none
 abbrev pub hop_or : ℕ → Option ℕ → ℕ

@@ -71,7 +71,7 @@ fn next_pass<const FIRST: u32, const SECOND: u32>(
       worker = number;
       online = false;
       steps = [];
-      seen = seat.old.view.seen;
+      writer_steps = seat.old.view.writer_steps;
     } }
 {
     let worker = seat.next_worker(table, number);

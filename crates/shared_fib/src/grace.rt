@@ -89,12 +89,12 @@ fn check_token<const FIRST: u32, const SECOND: u32>(
 ) -> Result<(), Busy>
     requires own { IsOf table.now seat.old.table seat.old.view }
     requires waits { IsInGrace FIRST SECOND control.old seat.old.view }
-    ensures checks { Checks seat.old.view.initial.workers seat.old.view.seen
-        (token_by seat.old.view) result seat.new.view.seen }
+    ensures checks { Checks seat.old.view.initial.workers seat.old.view.writer_steps
+        (token_by seat.old.view) result seat.new.view.writer_steps }
     ensures token { token_by seat.new.view
         ≡ token_by seat.old.view }
     ensures checked { OnOk result (IsChecked seat.old.view.initial.workers
-        seat.old.view.initial.token seat.new.view.seen (token_by seat.old.view)) }
+        seat.old.view.initial.token seat.new.view.writer_steps (token_by seat.old.view)) }
     ensures queued { OnOk result (0 < control.old.config.workers
         → All (λ token. token ≤ passed_by seat.new.view)
         (tokens_of control.new.pool.queue.items)) }

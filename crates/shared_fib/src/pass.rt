@@ -49,8 +49,8 @@ impl Model for Pass {
       table = record { words = p.seat.table; initial = p.seat.view.initial };
       worker = p.seat.worker;
       online = p.is_online;
-      steps = p.seat.view.own;
-      seen = p.seat.view.seen;
+      steps = p.seat.view.own_steps;
+      writer_steps = p.seat.view.writer_steps;
     } };
 
     ghost invariant = { λ p. IsPass p.seat.view p.is_online };
@@ -59,13 +59,13 @@ impl Model for Pass {
 impl Pass {
     // The pass of a worker that is offline, which has this seat.
     pub(crate) fn new(seat: WorkerSeat) -> Self
-        requires offline { (worker_by seat.view.own).phase ≡ Offline }
+        requires offline { (worker_by seat.view.own_steps).phase ≡ Offline }
         ensures { result ≡ record {
           table = record { words = seat.table; initial = seat.view.initial };
           worker = seat.worker;
           online = false;
-          steps = seat.view.own;
-          seen = seat.view.seen;
+          steps = seat.view.own_steps;
+          writer_steps = seat.view.writer_steps;
         } }
     {
         Pass {
@@ -255,7 +255,7 @@ impl Pass {
         ensures own { self.new.table ≡ self.old.table }
         ensures step { (number : ℕ) × (place : ℕ)
             × Makes ((MeetWriter number, place) ∷ []) self.old self.new }
-        ensures all { self.new.seen ≡ steps_of writer.old }
+        ensures all { self.new.writer_steps ≡ steps_of writer.old }
         ensures same { writer.new ≡ writer.old }
         ensures online { self.old.online ≡ true → self.new.online ≡ true }
         ensures offline { self.old.online ≡ false → self.new.online ≡ false }

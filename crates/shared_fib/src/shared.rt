@@ -44,14 +44,14 @@ impl<'a, const FIRST: u32, const SECOND: u32> SharedMemory<'a, FIRST, SECOND> {
         seat: &'a mut WriterSeat,
     ) -> SharedMemory<'a, FIRST, SECOND>
         requires own { IsOf table.now seat.old.table seat.old.view }
-        requires token { (state_after (initial_state_of seat.old.view.initial) seat.old.view.seen).token
+        requires token { (state_after (initial_state_of seat.old.view.initial) seat.old.view.writer_steps).token
             ≤ 2 ^ 62 }
         requires updates { updates_begun_in (state_after (initial_state_of seat.old.view.initial)
-            seat.old.view.seen) ≤ 2 ^ 61 }
+            seat.old.view.writer_steps) ≤ 2 ^ 61 }
         ensures name { result.name ≡ seat.entry.ghost_name }
         ensures table { result.table ≡ seat.old.table }
         ensures view { result.view ≡ seat.old.view }
-        ensures did { SharedDid result (initial_state_of seat.old.view.initial) seat.old.view.seen }
+        ensures did { SharedDid result (initial_state_of seat.old.view.initial) seat.old.view.writer_steps }
     {
         seat.history();
         let token = seat.token(table);
@@ -65,7 +65,7 @@ impl<'a, const FIRST: u32, const SECOND: u32> SharedMemory<'a, FIRST, SECOND> {
         ensures view { result.now.view ≡ self.entry.view }
         ensures token { (state_of_lent self.entry).token ≤ 2 ^ 62 }
         ensures updates { updates_begun_in (state_of_lent self.entry) ≤ 2 ^ 61 }
-        ensures lawful { AreLawful self.entry.view.initial self.entry.view.seen }
+        ensures lawful { AreLawful self.entry.view.initial self.entry.view.writer_steps }
     {
         self.seat.history();
         self.seat

@@ -25,11 +25,11 @@ fn check_until_passed<const FIRST: u32, const SECOND: u32, R: Wait>(
     control: &mut ControlState<FIRST, SECOND>,
     memory: &mut SharedMemory<'_, FIRST, SECOND>,
 )
-    requires did { SharedDid memory.old (initial_state_of memory.old.view.initial) memory.old.view.seen }
-    requires waits { IsWaiting FIRST SECOND (initial_state_of memory.old.view.initial) memory.old.view.seen
+    requires did { SharedDid memory.old (initial_state_of memory.old.view.initial) memory.old.view.writer_steps }
+    requires waits { IsWaiting FIRST SECOND (initial_state_of memory.old.view.initial) memory.old.view.writer_steps
         control.old.config control.old.rules control.old.pool control.old.versions }
-    ensures passes { PassesAtLast (initial_state_of memory.old.view.initial) memory.old.view.seen
-        memory.new.view.seen }
+    ensures passes { PassesAtLast (initial_state_of memory.old.view.initial) memory.old.view.writer_steps
+        memory.new.view.writer_steps }
     ensures queued { 0 < control.old.config.workers
         → All (λ token. token ≤ passed_by memory.new.view)
         (tokens_of control.new.pool.queue.items) }
@@ -55,12 +55,12 @@ fn synchronize_over<const FIRST: u32, const SECOND: u32, R: Wait>(
     control: &mut ControlState<FIRST, SECOND>,
     memory: &mut SharedMemory<'_, FIRST, SECOND>,
 ) -> Result<(), Exhausted>
-    requires did { SharedDid memory.old (initial_state_of memory.old.view.initial) memory.old.view.seen }
+    requires did { SharedDid memory.old (initial_state_of memory.old.view.initial) memory.old.view.writer_steps }
     requires rests { IsRestingBy FIRST SECOND control.old memory.old.view }
     ensures exhausted { IsErr result
         ↔ (2 ^ 62 < token_by memory.old.view + control.old.config.groups) }
     ensures synchronizes { OnOk result (Synchronizes memory.old.view.initial.workers
-        memory.old.view.initial.token memory.old.view.seen memory.new.view.seen) }
+        memory.old.view.initial.token memory.old.view.writer_steps memory.new.view.writer_steps) }
     ensures queued { OnOk result (0 < control.old.config.workers
         → All (λ token. token ≤ passed_by memory.new.view)
         (tokens_of control.new.pool.queue.items)) }
@@ -90,11 +90,11 @@ fn synchronize_by<const FIRST: u32, const SECOND: u32, R: Wait>(
     ensures exhausted { IsErr result
         ↔ (2 ^ 62 < token_by seat.old.view + control.old.config.groups) }
     ensures synchronizes { OnOk result (Synchronizes seat.old.view.initial.workers
-        seat.old.view.initial.token seat.old.view.seen seat.new.view.seen) }
+        seat.old.view.initial.token seat.old.view.writer_steps seat.new.view.writer_steps) }
     ensures started { OnOk result (token_by seat.new.view
         ≡ token_by seat.old.view + 1) }
     ensures checked { OnOk result (IsChecked seat.new.view.initial.workers
-        seat.new.view.initial.token seat.new.view.seen (token_by seat.new.view)) }
+        seat.new.view.initial.token seat.new.view.writer_steps (token_by seat.new.view)) }
     ensures queued { OnOk result (0 < control.old.config.workers
         → All (λ token. token ≤ passed_by seat.new.view)
         (tokens_of control.new.pool.queue.items)) }
@@ -106,7 +106,7 @@ fn synchronize_by<const FIRST: u32, const SECOND: u32, R: Wait>(
     ensures untouched { OnErr result (seat.new.view ≡ seat.old.view) }
     ensures seat { seat.new.table ≡ seat.old.table }
     ensures view { OnlySees seat.old.view seat.new.view }
-    ensures later { IsLater seat.old.view.seen seat.new.view.seen }
+    ensures later { IsLater seat.old.view.writer_steps seat.new.view.writer_steps }
 {
     let mut memory = SharedMemory::new(table, seat);
     let came = synchronize_over(rt, control, &mut memory);

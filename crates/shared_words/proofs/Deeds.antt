@@ -36,12 +36,12 @@ later_trans xs ys zs h k =
 -- a view that gains a step goes on, and its worker's state is moved
 pub gains_on : (r : WorkerStep) (v w : View) → Gains r v w → GoesOn v w
 gains_on r v w g =
-    let same : w.seen ≡ g.seen = ap (λ (x : View). x.seen) g.view in
-    let mine : w.own ≡ (r, length g.seen) ∷ v.own = ap (λ (x : View). x.own) g.view in
+    let same : w.writer_steps ≡ g.writer_steps = ap (λ (x : View). x.writer_steps) g.view in
+    let mine : w.own_steps ≡ (r, length g.writer_steps) ∷ v.own_steps = ap (λ (x : View). x.own_steps) g.view in
     record {
-      same = g.view ∙ ap (λ (z : List (WorkerStep × ℕ) × List WriterStep). record v { own = z.0; seen = z.1 })
+      same = g.view ∙ ap (λ (z : List (WorkerStep × ℕ) × List WriterStep). record v { own_steps = z.0; writer_steps = z.1 })
           (λ i. (sym mine i, sym same i));
-      later = subst (IsLater v.seen) (sym same) g.later;
+      later = subst (IsLater v.writer_steps) (sym same) g.later;
     }
 
 pub later_longer : (xs ys : List WriterStep) → IsLater xs ys → length xs ≤ length ys
@@ -49,23 +49,23 @@ later_longer xs ys h = omega (arith, ap length h.1, length-append h.0 xs)
 
 pub goes_on : (u v w : View) → GoesOn u v → GoesOn v w → GoesOn u w
 goes_on u v w h k = record {
-  same = k.same ∙ ap (λ (x : View). record x { own = w.own; seen = w.seen }) h.same;
-  later = later_trans u.seen v.seen w.seen h.later k.later;
+  same = k.same ∙ ap (λ (x : View). record x { own_steps = w.own_steps; writer_steps = w.writer_steps }) h.same;
+  later = later_trans u.writer_steps v.writer_steps w.writer_steps h.later k.later;
 }
 
 pub gains_state : (r : WorkerStep) (v w : View) (g : Gains r v w)
-    → worker_by w.own ≡ worker_by_step (length g.seen) (worker_by v.own) r
-gains_state r v w g = ap (λ (x : View). worker_by x.own) g.view
+    → worker_by w.own_steps ≡ worker_by_step (length g.writer_steps) (worker_by v.own_steps) r
+gains_state r v w g = ap (λ (x : View). worker_by x.own_steps) g.view
 
 -- a step may come at the end of what the worker has seen by then of the writer's steps
 pub may_now : (s : WorkerStep) (v w : View) → Gains s v w → IsSound w
-    → MayRead (initial_state_of v.initial) (state_after (initial_state_of v.initial) w.seen) (worker_by v.own) s
+    → MayRead (initial_state_of v.initial) (state_after (initial_state_of v.initial) w.writer_steps) (worker_by v.own_steps) s
 may_now s v w g known =
     let c : InitialState = initial_state_of v.initial in
-    let placed = subst (λ (x : View). ArePlaced (initial_state_of x.initial) x.seen x.own) g.view known.placed in
-    let all : oldest (length g.seen) g.seen ≡ g.seen = oldest_all g.seen (length g.seen) (omega arith) in
-    subst (λ (l : List WriterStep). MayRead c (state_after c l) (worker_by v.own) s)
-    (all ∙ sym (ap (λ (x : View). x.seen) g.view)) placed.0
+    let placed = subst (λ (x : View). ArePlaced (initial_state_of x.initial) x.writer_steps x.own_steps) g.view known.placed in
+    let all : oldest (length g.writer_steps) g.writer_steps ≡ g.writer_steps = oldest_all g.writer_steps (length g.writer_steps) (omega arith) in
+    subst (λ (l : List WriterStep). MayRead c (state_after c l) (worker_by v.own_steps) s)
+    (all ∙ sym (ap (λ (x : View). x.writer_steps) g.view)) placed.0
 
 -- the two loads of the sequence tell how many updates were done and begun at their places
 pub around : (addrs : List ℕ) (low high lo hi : ℕ) (v b u w : View) (begins : Gains (BeginLookup addrs low) v b)
@@ -77,7 +77,7 @@ around addrs low high lo hi v b u w begins ends known_then known same lo_is hi_i
   high = high;
   ends = ends;
   done_then = lo_is ∙ ap done_at (may_now (BeginLookup addrs low) v b begins known_then).2;
-  begun_then = subst (λ (o : InitialData). hi ≡ updates_begun_in (state_after (initial_state_of o) w.seen)) same
+  begun_then = subst (λ (o : InitialData). hi ≡ updates_begun_in (state_after (initial_state_of o) w.writer_steps)) same
       (hi_is ∙ ap begun_at (may_now (EndLookup high) u w ends known).2);
 }
 
@@ -118,7 +118,7 @@ pub firsts_are : (r : WorkerStep) (v w : View) (first : ℕ) → Gains r v w →
     → length w.initial.firsts ≡ 2 ^ first
 firsts_are r v w first g known is =
     let firsts : length w.initial.firsts ≡ 2 ^ w.initial.first =
-    sym (firsts_length (initial_state_of w.initial) w.seen) ∙ known.words.firsts_len in
+    sym (firsts_length (initial_state_of w.initial) w.writer_steps) ∙ known.words.firsts_len in
     let same : w.initial.first ≡ first = ap (λ (x : View). x.initial.first) g.view ∙ is in
     firsts ∙ ap (λ n. 2 ^ n) same
 
@@ -179,23 +179,23 @@ module _ (o : InitialData) where
   -- a note of what a view of the trace has seen
   note_is : (steps : List TraceStep) (seating : Seating) (seat : ℕ) (v : View)
       → IsViewOf o steps seating seat v → (j : ℕ) → IsViewOf o steps seating j (note_of v)
-  note_is steps seating seat v is j = record { sits = tt; seen = is.seen; told = later_none (writes steps) }
+  note_is steps seating seat v is j = record { sits = tt; writer_steps = is.writer_steps; heard = later_none (writes steps) }
 
   -- what a seat was told changes nothing else of it
   told_sits : (steps : List TraceStep) (seating : Seating) (seat : ℕ) (v : View) (told : List WriterStep)
       → (role : Role) → Sits o steps seating seat v role
-      → Sits o steps seating seat (record v { told = told }) role
+      → Sits o steps seating seat (record v { heard = told }) role
   told_sits steps seating seat v told Writer h = h
   told_sits steps seating seat v told (Worker k) h = h
   told_sits steps seating seat v told Note h = tt
 
   told_is : (steps : List TraceStep) (seating : Seating) (seat : ℕ) (v : View) (told : List WriterStep)
       → IsViewOf o steps seating seat v → IsLater told (writes steps)
-      → IsViewOf o steps seating seat (record v { told = told })
+      → IsViewOf o steps seating seat (record v { heard = told })
   told_is steps seating seat v told is later = record {
     sits = told_sits steps seating seat v told v.role is.sits;
-    seen = is.seen;
-    told = later;
+    writer_steps = is.writer_steps;
+    heard = later;
   }
 
   -- ---- the steps
@@ -220,15 +220,15 @@ module _ (o : InitialData) where
       let note : is other w = h.views other w (sym (set_else s.views id other (view_with_note v w) apart) ∙ there) in
       kept s h (slice_set (slice_set s.views id (view_with_note v w)) other read_note)
       (seats_set is (slice_set s.views id (view_with_note v w)) other read_note
-      record { sits = tt; seen = later_none (writes h.steps); told = later_none (writes h.steps) }
+      record { sits = tt; writer_steps = later_none (writes h.steps); heard = later_none (writes h.steps) }
       (λ j u _. seats_set is s.views id (view_with_note v w)
-      (told_is h.steps h.seating id v w.seen (h.views id v at) note.seen) (λ j u _. h.views j u) j u))
+      (told_is h.steps h.seating id v w.writer_steps (h.views id v at) note.writer_steps) (λ j u _. h.views j u) j u))
 
   -- the writer compares what it was told with its own steps
   pub compares_allowed : (slots id at : ℕ) (me : Me (Unit {0}) View) → me.0.role ≡ Writer
       → Allows (Holds o) slots id me at (λ n. n) (SeatCompares (step slots at 0 0 none) me)
   compares_allowed slots id at me role s h len there range =
-      let w : View = record me.0 { told = [] } in
+      let w : View = record me.0 { heard = [] } in
       let known : IsViewOf o h.steps h.seating id me.0 = h.views id me.0 there in
       let mine = subst (Sits o h.steps h.seating id me.0) role known.sits in (
         w,
@@ -239,5 +239,5 @@ module _ (o : InitialData) where
             (sym (set-get_or s.words at 0))
             (kept s h (slice_set s.views id w) (seats_set (IsViewOf o h.steps h.seating) s.views id w
             (told_is h.steps h.seating id me.0 [] known (later_none (writes h.steps))) (λ j u _. h.views j u))),
-        (refl, subst (IsLater me.0.told) (sym mine.2) known.told),
+        (refl, subst (IsLater me.0.heard) (sym mine.2) known.heard),
       )

@@ -55,35 +55,35 @@ module _ (o : InitialData) (slots id k at : ℕ) (me : Me (Unit {0}) View) (role
   -- a load at place i, which the worker's own steps allow
   loads_allowed : (i : ℕ) (of : ℕ → WorkerStep) → at ≡ i → ((n : ℕ) → IsQuiet (of n))
       → ((s : St o) (h : Holds o s) → me.0.initial ≡ o
-      → MayRead (initial_state_of o) (after (initial_state_of o) h.steps).state (worker_by me.0.own) (of (slice_index s.words i)))
+      → MayRead (initial_state_of o) (after (initial_state_of o) h.steps).state (worker_by me.0.own_steps) (of (slice_index s.words i)))
       → Loads at of
   loads_allowed i of there quiet may = subst (λ j. Loads j of) (sym there) (plain o of slots id i me
       (load_allowed o of (λ _. Unit {0}) slots id k i me role quiet (λ s h same. (may s h same, tt))))
 
-  pub load_online_allowed : at ≡ token_at → (worker_by me.0.own).phase ≡ Offline → Loads at LoadOnline
+  pub load_online_allowed : at ≡ token_at → (worker_by me.0.own_steps).phase ≡ Offline → Loads at LoadOnline
   load_online_allowed there offline = loads_allowed token_at LoadOnline there (λ n now w. refl) (λ s h same. (offline, h.words.token))
 
-  pub load_quiescent_allowed : at ≡ token_at → (worker_by me.0.own).phase ≡ Online → Loads at LoadQuiescent
+  pub load_quiescent_allowed : at ≡ token_at → (worker_by me.0.own_steps).phase ≡ Online → Loads at LoadQuiescent
   load_quiescent_allowed there online = loads_allowed token_at LoadQuiescent there (λ n now w. refl) (λ s h same. (online, h.words.token))
 
-  pub begins_allowed : (addrs : List ℕ) → at ≡ sequence_at → (worker_by me.0.own).phase ≡ Online
+  pub begins_allowed : (addrs : List ℕ) → at ≡ sequence_at → (worker_by me.0.own_steps).phase ≡ Online
       → All (λ a. a < addresses (initial_state_of me.0.initial)) addrs → Loads at (BeginLookup addrs)
   begins_allowed addrs there online inside = loads_allowed sequence_at (BeginLookup addrs) there (λ n now w. refl) (λ s h same.
       let within = subst (λ (z : InitialData). All (λ a. a < addresses (initial_state_of z)) addrs) same inside in
       (online, within, h.words.sequence))
 
-  pub ends_allowed : at ≡ sequence_at → (worker_by me.0.own).phase ≡ LookingUp
-      → AreAnswered (worker_by me.0.own).probes → Loads at EndLookup
+  pub ends_allowed : at ≡ sequence_at → (worker_by me.0.own_steps).phase ≡ LookingUp
+      → AreAnswered (worker_by me.0.own_steps).probes → Loads at EndLookup
   ends_allowed there looking answered =
       loads_allowed sequence_at EndLookup there (λ n now w. refl) (λ s h same. (looking, answered, h.words.sequence))
 
-  pub meets_allowed : at ≡ sequence_at → IsBetweenDeeds (worker_by me.0.own).phase → Loads at MeetWriter
+  pub meets_allowed : at ≡ sequence_at → IsBetweenDeeds (worker_by me.0.own_steps).phase → Loads at MeetWriter
   meets_allowed there between =
       loads_allowed sequence_at MeetWriter there (λ n now w. refl) (λ s h same. (between, h.words.sequence))
 
   pub first_allowed : (i : ℕ) → at ≡ first_at i → i < length o.firsts
-      → (worker_by me.0.own).phase ≡ LookingUp
-      → IsFirstAt me.0.initial.second i (worker_by me.0.own).probes
+      → (worker_by me.0.own_steps).phase ≡ LookingUp
+      → IsFirstAt me.0.initial.second i (worker_by me.0.own_steps).probes
       → Allows (Holds o) slots id me at (λ n. n) (λ n. WorkerGainsFirst me (half i n))
   first_allowed i there inside looking next = subst
       (λ q. Allows (Holds o) slots id me q (λ n. n) (λ n. WorkerGainsFirst me (half i n))) (sym there)
@@ -102,8 +102,8 @@ module _ (o : InitialData) (slots id k at : ℕ) (me : Me (Unit {0}) View) (role
       (entries.first_words i (omega (arith, inside, h.words.firsts_len))) in (
         (
           looking,
-          next_first o w.state word i (worker_by me.0.own).probes
-              (subst (λ (z : InitialData). IsFirstAt z.second i (worker_by me.0.own).probes) same next) is,
+          next_first o w.state word i (worker_by me.0.own_steps).probes
+              (subst (λ (z : InitialData). IsFirstAt z.second i (worker_by me.0.own_steps).probes) same next) is,
         ),
         subst (λ (z : InitialData). IsFirstWord (z.first + z.second) z.second z.seconds word) (sym same) (
           there.0,
@@ -112,8 +112,8 @@ module _ (o : InitialData) (slots id k at : ℕ) (me : Me (Unit {0}) View) (role
       )))
 
   pub second_allowed : (j : ℕ) → at ≡ second_at o j → j < length o.seconds
-      → (worker_by me.0.own).phase ≡ LookingUp → AreBegun (worker_by me.0.own).probes
-      → IsSecondAt me.0.initial.second j (worker_by me.0.own).probes
+      → (worker_by me.0.own_steps).phase ≡ LookingUp → AreBegun (worker_by me.0.own_steps).probes
+      → IsSecondAt me.0.initial.second j (worker_by me.0.own_steps).probes
       → Allows (Holds o) slots id me at (λ n. n) (λ n. WorkerGainsSecond me (half j n))
   second_allowed j there inside looking begun next = subst
       (λ q. Allows (Holds o) slots id me q (λ n. n) (λ n. WorkerGainsSecond me (half j n))) (sym there)
@@ -129,8 +129,8 @@ module _ (o : InitialData) (slots id k at : ℕ) (me : Me (Unit {0}) View) (role
         (
           looking,
           begun,
-          next_second o w.state word j (worker_by me.0.own).probes
-              (subst (λ (z : InitialData). IsSecondAt z.second j (worker_by me.0.own).probes) same next) is,
+          next_second o w.state word j (worker_by me.0.own_steps).probes
+              (subst (λ (z : InitialData). IsSecondAt z.second j (worker_by me.0.own_steps).probes) same next) is,
         ),
         subst (λ (z : InitialData). IsLastWord (z.first + z.second) word) (sym same)
             (subst (IsLastWord (o.first + o.second)) (sym is)
@@ -138,17 +138,17 @@ module _ (o : InitialData) (slots id k at : ℕ) (me : Me (Unit {0}) View) (role
       )))
 
   pub store_online_allowed : (token : ℕ) → at ≡ counter_at o k
-      → (worker_by me.0.own).phase ≡ ComingOnline token
+      → (worker_by me.0.own_steps).phase ≡ ComingOnline token
       → Stores at (StoreOnline token) token
   store_online_allowed token there loaded = subst (λ i. Stores i (StoreOnline token) token) (sym there)
       (store_allowed o (StoreOnline token) token slots id k me role (λ now w. refl) (λ s h. loaded))
 
   pub store_quiescent_allowed : (token : ℕ) → at ≡ counter_at o k
-      → (worker_by me.0.own).phase ≡ ReportingQuiescent token → Stores at (StoreQuiescent token) token
+      → (worker_by me.0.own_steps).phase ≡ ReportingQuiescent token → Stores at (StoreQuiescent token) token
   store_quiescent_allowed token there loaded = subst (λ i. Stores i (StoreQuiescent token) token) (sym there)
       (store_allowed o (StoreQuiescent token) token slots id k me role (λ now w. refl) (λ s h. loaded))
 
-  pub store_offline_allowed : at ≡ counter_at o k → (worker_by me.0.own).phase ≡ Online
+  pub store_offline_allowed : at ≡ counter_at o k → (worker_by me.0.own_steps).phase ≡ Online
       → Stores at StoreOffline 0
   store_offline_allowed there online = subst (λ i. Stores i StoreOffline 0) (sym there)
       (store_allowed o StoreOffline 0 slots id k me role (λ now w. refl) (λ s h. online))
@@ -164,9 +164,9 @@ pub writer_inside : {w x : WordsAt} {a b : WriterAt} → w ≡ x → a ≡ b →
 writer_inside words same own =
     subst (λ (z : WordsAt × WriterAt). IsOf z.0 z.1.table z.1.view) (λ i. (sym words i, sym same i)) own
 
-pub phase_inside : {p : Phase} {a b : WorkerAt} → a ≡ b → (worker_by b.view.own).phase ≡ p
-    → (worker_by a.view.own).phase ≡ p
-phase_inside same is = ap (λ (s : WorkerAt). (worker_by s.view.own).phase) same ∙ is
+pub phase_inside : {p : Phase} {a b : WorkerAt} → a ≡ b → (worker_by b.view.own_steps).phase ≡ p
+    → (worker_by a.view.own_steps).phase ≡ p
+phase_inside same is = ap (λ (s : WorkerAt). (worker_by s.view.own_steps).phase) same ∙ is
 
 -- a store into the worker's counter is inside the table
 pub at_counter : {X : Type 0} {at number : ℕ} {w : WordsAt} {seat : TableId} {me : Me (Unit {0}) View}
@@ -209,7 +209,7 @@ pub first_inside : {w : WordsAt} {a b : WriterAt} {i word at : ℕ} → IsOf w a
 first_inside {w} {a} {b} {i} {word} own same may there =
     let len = ap (λ (z : InitialData). length z.firsts) own.initial_is in
     let inside = may_inside (StoreFirst i word) same may in
-    omega (arith, len, inside.0.1, firsts_length (initial_state_of a.view.initial) a.view.seen, there, own.words)
+    omega (arith, len, inside.0.1, firsts_length (initial_state_of a.view.initial) a.view.writer_steps, there, own.words)
 
 pub second_inside : {w : WordsAt} {a b : WriterAt} {j word at : ℕ} → IsOf w a.table a.view → a ≡ b
     → MayFollow b.view (StoreSecond j word) → at ≡ 2 + pairs w.layout.firsts + j / 2 → at < w.table.words
@@ -220,7 +220,7 @@ second_inside {w} {a} {b} {j} {word} own same may there =
       arith,
       len,
       inside.0.1,
-      seconds_length (initial_state_of a.view.initial) a.view.seen,
+      seconds_length (initial_state_of a.view.initial) a.view.writer_steps,
       there,
       own.firsts,
       own.words,

@@ -57,42 +57,42 @@ module _ (a group first : ℕ) (rest : List Probe) where
 
 -- the worker stands as this one, but for these probes
 abbrev Stands : WorkerState → List Probe → View → Type 0
-Stands r probes v = worker_by v.own ≡ record r { probes = probes }
+Stands r probes v = worker_by v.own_steps ≡ record r { probes = probes }
 
 -- ---- the first words
 
 first_stands : (r : WorkerState) (a word : ℕ) (rest before : List Probe) (v w : View) (g : Gains (LoadFirst word) v w)
     → AreBegun before → Stands r (before ++ Unread a ∷ rest) v
-    → Stands r (before ++ read_first (length g.seen) a (entry_in word) ∷ rest) w
+    → Stands r (before ++ read_first (length g.writer_steps) a (entry_in word) ∷ rest) w
 first_stands r a word rest before v w g begun stands =
     gains_state (LoadFirst word) v w g
-    ∙ ap (λ (x : WorkerState). worker_by_step (length g.seen) x (LoadFirst word)) stands
-    ∙ ap (λ (ps : List Probe). record r { probes = ps }) (first_read_at (length g.seen) a (entry_in word) rest before begun)
+    ∙ ap (λ (x : WorkerState). worker_by_step (length g.writer_steps) x (LoadFirst word)) stands
+    ∙ ap (λ (ps : List Probe). record r { probes = ps }) (first_read_at (length g.writer_steps) a (entry_in word) rest before begun)
 
 -- the first word of an address that is looked up alone
-first_loaded : {addr word : ℕ} {v u : View} → (worker_by v.own).probes ≡ Unread addr ∷ []
+first_loaded : {addr word : ℕ} {v u : View} → (worker_by v.own_steps).probes ≡ Unread addr ∷ []
     → Gains (LoadFirst word) v u → LoadsFirsts (addr ∷ []) (word ∷ []) v u
 first_loaded {addr} {word} {v} {u} unread g = record {
   steps = (v, refl, g, refl);
   rest = gains_on (LoadFirst word) v u g;
-  places = length g.seen ∷ [];
+  places = length g.writer_steps ∷ [];
   count = refl;
-  after = All-cons (λ n. length v.seen ≤ n) (length g.seen) [] (later_longer v.seen g.seen g.later)
-      (All-nil (λ n. length v.seen ≤ n));
-  state = first_stands (worker_by v.own) addr word [] [] v u g tt
-      (ap (λ (ps : List Probe). record (worker_by v.own) { probes = ps }) unread);
+  after = All-cons (λ n. length v.writer_steps ≤ n) (length g.writer_steps) [] (later_longer v.writer_steps g.writer_steps g.later)
+      (All-nil (λ n. length v.writer_steps ≤ n));
+  state = first_stands (worker_by v.own_steps) addr word [] [] v u g tt
+      (ap (λ (ps : List Probe). record (worker_by v.own_steps) { probes = ps }) unread);
 }
 
 module _ (a b c d : ℕ) (v v1 v2 v3 w : View) (x1 x2 x3 x4 : ℕ) (g1 : Gains (LoadFirst x1) v v1)
     (g2 : Gains (LoadFirst x2) v1 v2) (g3 : Gains (LoadFirst x3) v2 v3) (g4 : Gains (LoadFirst x4) v3 w) where
-  pub firsts_loaded : (worker_by v.own).probes ≡ Unread a ∷ Unread b ∷ Unread c ∷ Unread d ∷ []
+  pub firsts_loaded : (worker_by v.own_steps).probes ≡ Unread a ∷ Unread b ∷ Unread c ∷ Unread d ∷ []
       → LoadsFirsts (a ∷ b ∷ c ∷ d ∷ []) (x1 ∷ x2 ∷ x3 ∷ x4 ∷ []) v w
   firsts_loaded unread =
-      let r : WorkerState = worker_by v.own in
-      let n1 : ℕ = length g1.seen in
-      let n2 : ℕ = length g2.seen in
-      let n3 : ℕ = length g3.seen in
-      let n4 : ℕ = length g4.seen in
+      let r : WorkerState = worker_by v.own_steps in
+      let n1 : ℕ = length g1.writer_steps in
+      let n2 : ℕ = length g2.writer_steps in
+      let n3 : ℕ = length g3.writer_steps in
+      let n4 : ℕ = length g4.writer_steps in
       let p1 : Probe = read_first n1 a (entry_in x1) in
       let p2 : Probe = read_first n2 b (entry_in x2) in
       let p3 : Probe = read_first n3 c (entry_in x3) in
@@ -110,11 +110,11 @@ module _ (a b c d : ℕ) (v v1 v2 v3 w : View) (x1 x2 x3 x4 : ℕ) (g1 : Gains (
       let o1 : GoesOn v v1 = gains_on (LoadFirst x1) v v1 g1 in
       let o2 : GoesOn v v2 = goes_on v v1 v2 o1 (gains_on (LoadFirst x2) v1 v2 g2) in
       let o3 : GoesOn v v3 = goes_on v v2 v3 o2 (gains_on (LoadFirst x3) v2 v3 g3) in
-      let l1 : length v.seen ≤ n1 = later_longer v.seen g1.seen g1.later in
-      let l2 : length v.seen ≤ n2 = omega (arith, later_longer v.seen v1.seen o1.later, later_longer v1.seen g2.seen g2.later) in
-      let l3 : length v.seen ≤ n3 = omega (arith, later_longer v.seen v2.seen o2.later, later_longer v2.seen g3.seen g3.later) in
-      let l4 : length v.seen ≤ n4 = omega (arith, later_longer v.seen v3.seen o3.later, later_longer v3.seen g4.seen g4.later) in
-      let is : ℕ → Type 0 = λ place. length v.seen ≤ place in
+      let l1 : length v.writer_steps ≤ n1 = later_longer v.writer_steps g1.writer_steps g1.later in
+      let l2 : length v.writer_steps ≤ n2 = omega (arith, later_longer v.writer_steps v1.writer_steps o1.later, later_longer v1.writer_steps g2.writer_steps g2.later) in
+      let l3 : length v.writer_steps ≤ n3 = omega (arith, later_longer v.writer_steps v2.writer_steps o2.later, later_longer v2.writer_steps g3.writer_steps g3.later) in
+      let l4 : length v.writer_steps ≤ n4 = omega (arith, later_longer v.writer_steps v3.writer_steps o3.later, later_longer v3.writer_steps g4.writer_steps g4.later) in
+      let is : ℕ → Type 0 = λ place. length v.writer_steps ≤ place in
       record {
         steps = (v3, (v2, (v1, (v, refl, g1, refl), g2, refl), g3, refl), g4, refl);
         rest = goes_on v v3 w o3 (gains_on (LoadFirst x4) v3 w g4);
@@ -135,37 +135,37 @@ module _ (addr word : ℕ) (v : View) where
     exact = alone (entry_in word) last;
     rest = record { same = refl; later = ([], refl) };
     state = λ next.
-        ap (λ (ps : List Probe). record (worker_by v.own) { probes = ps })
+        ap (λ (ps : List Probe). record (worker_by v.own_steps) { probes = ps })
         (next.split
         ∙ ap (λ (p : Probe). next.before ++ p ∷ next.rest) (answered next.first addr (entry_in word) last));
   }
 
   module _ (group : ℕ) (is : entry_in word ≡ Group group) where
-    grouped : (next : IsNextWith addr word (worker_by v.own).probes)
-        → (worker_by v.own).probes ≡ next.before ++ InGroup addr group next.first ∷ next.rest
+    grouped : (next : IsNextWith addr word (worker_by v.own_steps).probes)
+        → (worker_by v.own_steps).probes ≡ next.before ++ InGroup addr group next.first ∷ next.rest
     grouped next = next.split ∙ ap (λ (e : Entry). next.before ++ read_first next.first addr e ∷ next.rest) is
 
-    pub begun_with : IsNextWith addr word (worker_by v.own).probes → AreBegun (worker_by v.own).probes
+    pub begun_with : IsNextWith addr word (worker_by v.own_steps).probes → AreBegun (worker_by v.own_steps).probes
     begun_with next = subst AreBegun (sym (grouped next))
         (all_begun addr group next.first next.rest next.begun next.before next.answered)
 
     pub second_with : (second j : ℕ) → j ≡ group * 2 ^ second + addr % 2 ^ second
-        → IsNextWith addr word (worker_by v.own).probes → IsSecondAt second j (worker_by v.own).probes
+        → IsNextWith addr word (worker_by v.own_steps).probes → IsSecondAt second j (worker_by v.own_steps).probes
     second_with second j there next = subst (IsSecondAt second j) (sym (grouped next))
         (second_at addr group next.first next.rest second j there next.before next.answered)
 
     pub second_loaded : (last : ℕ) (w : View) → Gains (LoadSecond last) v w → LoadsLast addr word last v w
     second_loaded last w g = record {
-      second = Some (last, length g.seen);
+      second = Some (last, length g.writer_steps);
       steps = (v, refl, g, refl);
-      exact = subst (λ (e : Entry). IsReadOn e (Some (last, length g.seen)) (hop_in (entry_in last))) (sym is)
-          ((last, length g.seen), refl, refl);
+      exact = subst (λ (e : Entry). IsReadOn e (Some (last, length g.writer_steps)) (hop_in (entry_in last))) (sym is)
+          ((last, length g.writer_steps), refl, refl);
       rest = gains_on (LoadSecond last) v w g;
       state = λ next.
           gains_state (LoadSecond last) v w g
-          ∙ ap (λ (ps : List Probe). record (worker_by v.own) { probes = ps })
-          (ap (second_read (length g.seen) (entry_in last)) (grouped next)
-          ∙ second_read_at addr group next.first next.rest (length g.seen) (entry_in last) next.before next.answered);
+          ∙ ap (λ (ps : List Probe). record (worker_by v.own_steps) { probes = ps })
+          (ap (second_read (length g.writer_steps) (entry_in last)) (grouped next)
+          ∙ second_read_at addr group next.first next.rest (length g.writer_steps) (entry_in last) next.before next.answered);
     }
 
 -- ---- the whole lookup
@@ -210,12 +210,12 @@ pub record Reads (all : List ℕ) (low : ℕ) (v0 v f : View) (done : List Addre
   pub begins : Gains (BeginLookup all low) v0 v
   pub count : length places ≡ length left
   pub fit : All (IsFirstWord (v.initial.first + v.initial.second) v.initial.second v.initial.seconds) words
-  pub stands : worker_by u.own ≡ record (worker_by v.own) { probes = map answer done ++ first_words places left words }
+  pub stands : worker_by u.own_steps ≡ record (worker_by v.own_steps) { probes = map answer done ++ first_words places left words }
   pub firsts : GainsAt (loads_first places words ++ firsts_at done) v f
   pub seconds : GainsAt (seconds_at done) f u
   pub exact : All (λ x. IsReadOn (entry_in x.word) x.second x.hop) done
-  pub after : All (λ x. length v.seen ≤ x.first) done
-  pub later : All (λ n. length v.seen ≤ n) places
+  pub after : All (λ x. length v.writer_steps ≤ x.first) done
+  pub later : All (λ n. length v.writer_steps ≤ n) places
   pub on : GoesOn v u
 
 pub same_four : {A : Type 0} {a b c d a' b' c' d' : A} → a' ≡ a → b' ≡ b → c' ≡ c → d' ≡ d
@@ -235,7 +235,7 @@ reads {all} {addrs} {words} {low} {v0} {v} {f} same begun fit loads = record {
       (sym (append-nil (loads_first loads.places words))) loads.steps;
   seconds = refl;
   exact = All-nil (λ x. IsReadOn (entry_in x.word) x.second x.hop);
-  after = All-nil (λ x. length v.seen ≤ x.first);
+  after = All-nil (λ x. length v.writer_steps ≤ x.first);
   later = loads.after;
   on = loads.rest;
 }
@@ -243,7 +243,7 @@ reads {all} {addrs} {words} {low} {v0} {v} {f} same begun fit loads = record {
 pub reads_alone : {a addr word low : ℕ} {v0 v f : View} → a ≡ addr → Gains (BeginLookup (a ∷ []) low) v0 v
     → IsFirstWord (v.initial.first + v.initial.second) v.initial.second v.initial.seconds word
     → (g : Gains (LoadFirst word) v f)
-    → Reads (addr ∷ []) low v0 v f [] (length g.seen ∷ []) (addr ∷ []) (word ∷ []) f
+    → Reads (addr ∷ []) low v0 v f [] (length g.writer_steps ∷ []) (addr ∷ []) (word ∷ []) f
 unfolding first_loaded
 reads_alone {a} {addr} {word} {low} {v0} {v} {f} same begun fit g =
     let unread = ap (λ (x : WorkerState). x.probes) (gains_state (BeginLookup (a ∷ []) low) v0 v begun)
@@ -264,7 +264,7 @@ found a word last places second = record {
 module _ {all : List ℕ} {low : ℕ} {v0 v f : View} {done : List AddressLookup} where
   -- the next address
   next_of : {n a word : ℕ} {places left words : List ℕ} {u : View}
-      → Reads all low v0 v f done (n ∷ places) (a ∷ left) (word ∷ words) u → IsNextWith a word (worker_by u.own).probes
+      → Reads all low v0 v f done (n ∷ places) (a ∷ left) (word ∷ words) u → IsNextWith a word (worker_by u.own_steps).probes
   next_of {n} {a} {word} {places} {left} {words} h = record {
     before = map answer done;
     rest = first_words places left words;
@@ -275,7 +275,7 @@ module _ {all : List ℕ} {low : ℕ} {v0 v f : View} {done : List AddressLookup
   }
 
   pub looking : {places left words : List ℕ} {u : View} → Reads all low v0 v f done places left words u
-      → (worker_by u.own).phase ≡ LookingUp
+      → (worker_by u.own_steps).phase ≡ LookingUp
   looking h = ap (λ (x : WorkerState). x.phase) h.stands
       ∙ ap (λ (x : WorkerState). x.phase) (gains_state (BeginLookup all low) v0 v h.begins)
 
@@ -306,7 +306,7 @@ module _ {all : List ℕ} {low : ℕ} {v0 v f : View} {done : List AddressLookup
         fit = All-tail (IsFirstWord (v.initial.first + v.initial.second) v.initial.second v.initial.seconds) word words h.fit;
         stands = loads.state (next_of h)
             ∙ ap (λ (r : WorkerState). record r { probes = map answer done ++ answer x ∷ first_words places left words }) h.stands
-            ∙ ap (λ (ps : List Probe). record (worker_by v.own) { probes = ps })
+            ∙ ap (λ (ps : List Probe). record (worker_by v.own_steps) { probes = ps })
             (answer_more done x (first_words places left words));
         firsts = subst (λ (steps : List (WorkerStep × ℕ)). GainsAt steps v f)
             (append_assoc (loads_first places words) ((LoadFirst word, n) ∷ []) (firsts_at done)
@@ -314,14 +314,14 @@ module _ {all : List ℕ} {low : ℕ} {v0 v f : View} {done : List AddressLookup
         seconds = subst (λ (steps : List (WorkerStep × ℕ)). GainsAt steps f s) (seconds_more done x)
             (goes_at (second_load loads.second) (seconds_at done) f u s loads.steps h.seconds);
         exact = All-push (λ x. IsReadOn (entry_in x.word) x.second x.hop) done x h.exact loads.exact;
-        after = All-push (λ x. length v.seen ≤ x.first) done x h.after
-            (All-head (λ n. length v.seen ≤ n) n places h.later);
-        later = All-tail (λ n. length v.seen ≤ n) n places h.later;
+        after = All-push (λ x. length v.writer_steps ≤ x.first) done x h.after
+            (All-head (λ n. length v.writer_steps ≤ n) n places h.later);
+        later = All-tail (λ n. length v.writer_steps ≤ n) n places h.later;
         on = goes_on v u s h.on loads.rest;
       }
 
   pub all_answered : {places : List ℕ} {s : View} → Reads all low v0 v f done places [] [] s
-      → AreAnswered (worker_by s.own).probes
+      → AreAnswered (worker_by s.own_steps).probes
   all_answered {places = n ∷ places} h = absurd (omega (arith, h.count))
   all_answered {places = []} h = subst (λ (x : WorkerState). AreAnswered x.probes) (sym h.stands)
       (subst AreAnswered (sym (append-nil (map answer done))) (all_answers done))
@@ -351,25 +351,25 @@ module _ {all : List ℕ} {low high : ℕ} {v0 v f : View} {done : List AddressL
       → LooksUpAll all hops lo hi v0 w
   looked_together {places = n ∷ places} h ends known_then known addrs_are hops_are lo_is hi_is = absurd (omega (arith, h.count))
   looked_together {places = []} {hops} {lo} {hi} h ends known_then known addrs_are hops_are lo_is hi_is =
-      let old : List FinishedLookup = (worker_by v0.own).finished in
+      let old : List FinishedLookup = (worker_by v0.own_steps).finished in
       let began : GoesOn v0 v = gains_on (BeginLookup all low) v0 v h.begins in
       let loaded : GoesOn v0 s = goes_on v0 v s began h.on in
       let on : GoesOn v0 w = goes_on v0 s w loaded (gains_on (EndLookup high) s w ends) in
-      let state : worker_by w.own ≡ record (worker_by v0.own) {
+      let state : worker_by w.own_steps ≡ record (worker_by v0.own_steps) {
         phase = Online;
         lo = done_at low;
         probes = [];
         finished = with_answers (done_at low) (begun_at high) (map answer done) old;
       } = gains_state (EndLookup high) s w ends
-      ∙ ap (λ (x : WorkerState). worker_by_step (length ends.seen) x (EndLookup high))
-      (h.stands ∙ ap (λ (ps : List Probe). record (worker_by v.own) { probes = ps }) (append-nil (map answer done))
+      ∙ ap (λ (x : WorkerState). worker_by_step (length ends.writer_steps) x (EndLookup high))
+      (h.stands ∙ ap (λ (ps : List Probe). record (worker_by v.own_steps) { probes = ps }) (append-nil (map answer done))
       ∙ ap (λ (x : WorkerState). record x { probes = map answer done }) (gains_state (BeginLookup all low) v0 v h.begins)) in
-      let finished : (worker_by w.own).finished ≡ reverse_aux (map (seen_of lo hi) done) old =
+      let finished : (worker_by w.own_steps).finished ≡ reverse_aux (map (seen_of lo hi) done) old =
       ap (λ (x : WorkerState). x.finished) state ∙ in_order (done_at low) (begun_at high) done old
       ∙ (λ i. reverse_aux (map (seen_of (sym lo_is i) (sym hi_is i)) done) old) in
-      let IsLegal : FinishedLookup → Type 0 = IsLegalAtPlace (initial_state_of v0.initial) w.seen in
-      let legal : All IsLegal (worker_by w.own).finished = subst
-      (λ (o : InitialData). All (IsLegalAtPlace (initial_state_of o) w.seen) (worker_by w.own).finished)
+      let IsLegal : FinishedLookup → Type 0 = IsLegalAtPlace (initial_state_of v0.initial) w.writer_steps in
+      let legal : All IsLegal (worker_by w.own_steps).finished = subst
+      (λ (o : InitialData). All (IsLegalAtPlace (initial_state_of o) w.writer_steps) (worker_by w.own_steps).finished)
       (ap (λ (x : View). x.initial) on.same) known.legal in
       record {
         started = v;
@@ -405,7 +405,7 @@ module _ {addr low high : ℕ} {v0 v f : View} {x : AddressLookup} {s w : View} 
   looked {places = []} {hop} {lo} {hi} h ends known_then known addr_is hop_is lo_is hi_is =
       let all : LooksUpAll (addr ∷ []) (hop ∷ []) lo hi v0 w = looked_together h ends known_then known
       (ap (λ a. a ∷ []) addr_is) (ap (λ (o : Option ℕ). o ∷ []) hop_is) lo_is hi_is in
-      let IsLegal : FinishedLookup → Type 0 = IsLegalAtPlace (initial_state_of v0.initial) w.seen in
+      let IsLegal : FinishedLookup → Type 0 = IsLegalAtPlace (initial_state_of v0.initial) w.writer_steps in
       record {
         started = v;
         loaded = s;
@@ -417,6 +417,6 @@ module _ {addr low high : ℕ} {v0 v f : View} {x : AddressLookup} {s w : View} 
         rest = all.rest;
         online = all.online;
         finished = all.finished;
-        after = All-head (λ x. length v.seen ≤ x.first) x [] h.after;
+        after = All-head (λ x. length v.writer_steps ≤ x.first) x [] h.after;
         legal = All-head (λ x. IsLegal (seen_of lo hi x)) x [] all.legal;
       }

@@ -36,7 +36,7 @@ Stores r x = (now : ℕ) (w : WorkerState) → (worker_by_step now w r).counter 
 
 -- the view with the step
 abbrev pub gained : View → WorkerStep → List WriterStep → View
-gained v r seen = record v { own = (r, length seen) ∷ v.own; seen = seen }
+gained v r seen = record v { own_steps = (r, length seen) ∷ v.own_steps; writer_steps = seen }
 
 own_more : (k : ℕ) (r : WorkerStep) (steps : List TraceStep)
     → own_steps k (ByWorker k r ∷ steps) ≡ (r, length (writes steps)) ∷ own_steps k steps
@@ -114,7 +114,7 @@ module _ (o : InitialData) where
 
   -- what may be read after the worker's own steps may come next
   may_come : (s : St) (h : Holds o s) (id k : ℕ) (v : View) (r : WorkerStep) → get_elem? s.views id ≡ some v
-      → v.role ≡ Worker k → MayRead (initial_state_of o) (after (initial_state_of o) h.steps).state (worker_by v.own) r
+      → v.role ≡ Worker k → MayRead (initial_state_of o) (after (initial_state_of o) h.steps).state (worker_by v.own_steps) r
       → MayCome (initial_state_of o) (after (initial_state_of o) h.steps) (ByWorker k r)
   may_come s h id k v r at is may =
       let mine = sits_of s h id k v at is in
@@ -127,7 +127,7 @@ module _ (o : InitialData) where
   -- a step of a worker keeps the rule
   worker_step : (s : St) (h : Holds o s) (id k : ℕ) (v : View) (r : WorkerStep) (words : List ℕ)
       → get_elem? s.views id ≡ some v → v.role ≡ Worker k
-      → MayRead (initial_state_of o) (after (initial_state_of o) h.steps).state (worker_by v.own) r
+      → MayRead (initial_state_of o) (after (initial_state_of o) h.steps).state (worker_by v.own_steps) r
       → IsLaidOut o words (after (initial_state_of o) (ByWorker k r ∷ h.steps))
       → Holds o record {
         words = words;
@@ -148,8 +148,8 @@ module _ (o : InitialData) where
           ap (λ (xs : List (WorkerStep × ℕ)). (r, length (writes steps)) ∷ xs) mine.3
               ∙ sym (own_more k r steps),
         );
-        seen = ([], refl);
-        told = known.told;
+        writer_steps = ([], refl);
+        heard = known.heard;
       } in
       record {
         steps = ByWorker k r ∷ steps;
@@ -164,15 +164,15 @@ module _ (o : InitialData) where
         views = seats_set (IsViewOf o (ByWorker k r ∷ steps) seating) s.views id w new (λ j u other there.
             let old : IsViewOf o steps seating j u = h.views j u there in record {
               sits = bystander steps seating k id r mine.0 j u other u.role old.sits;
-              seen = old.seen;
-              told = old.told;
+              writer_steps = old.writer_steps;
+              heard = old.heard;
             });
       }
 
   -- ---- what the seat learns
 
   sound : (v : View) (k : ℕ) (steps : List TraceStep) → IsSettled (initial_state_of o) → IsTrace (initial_state_of o) steps
-      → v.initial ≡ o → v.seen ≡ writes steps → v.own ≡ own_steps k steps → IsSound v
+      → v.initial ≡ o → v.writer_steps ≡ writes steps → v.own_steps ≡ own_steps k steps → IsSound v
   sound v k steps settled trace initial seen mine =
       let places = places_never_fall k steps in
       let words : IsWords o.first o.second (state_after (initial_state_of o) (writes steps)).words = subst
@@ -201,17 +201,17 @@ module _ (o : InitialData) where
       }
 
   gained_is : (s : St) (h : Holds o s) (id k : ℕ) (v : View) (r : WorkerStep) → get_elem? s.views id ≡ some v
-      → v.role ≡ Worker k → MayRead (initial_state_of o) (after (initial_state_of o) h.steps).state (worker_by v.own) r
+      → v.role ≡ Worker k → MayRead (initial_state_of o) (after (initial_state_of o) h.steps).state (worker_by v.own_steps) r
       → Gains r v (gained v r (writes h.steps)) × IsSound (gained v r (writes h.steps))
   gained_is s h id k v r at is may =
       let steps = h.steps in
       let mine = sits_of s h id k v at is in
       let known : IsViewOf o steps h.seating id v = h.views id v at in (
         record {
-          seen = writes steps;
+          writer_steps = writes steps;
           view = refl;
-          later = known.seen;
-          told = known.told;
+          later = known.writer_steps;
+          heard = known.heard;
         },
         sound (gained v r (writes steps)) k (ByWorker k r ∷ steps) h.settled
             (may_come s h id k v r at is may, h.trace) mine.1 refl
@@ -230,7 +230,7 @@ module _ (o : InitialData) where
   pub load_allowed : (of : ℕ → WorkerStep) (also : ℕ → Type 0) (slots id k i : ℕ) (me : Me (Unit {0}) View)
       → me.0.role ≡ Worker k → ((n : ℕ) → IsQuiet (of n))
       → ((s : St) (h : Holds o s) → me.0.initial ≡ o
-      → MayRead (initial_state_of o) (after (initial_state_of o) h.steps).state (worker_by me.0.own)
+      → MayRead (initial_state_of o) (after (initial_state_of o) h.steps).state (worker_by me.0.own_steps)
       (of (slice_index s.words i))
       × also (slice_index s.words i))
       → Allows (Holds o) slots id me i (λ n. n) (λ n me'. WorkerGains (of n) me me' × also n)
@@ -268,7 +268,7 @@ module _ (o : InitialData) where
   pub store_allowed : (r : WorkerStep) (x slots id k : ℕ) (me : Me (Unit {0}) View)
       → me.0.role ≡ Worker k → Stores r x
       → ((s : St) (h : Holds o s)
-      → MayRead (initial_state_of o) (after (initial_state_of o) h.steps).state (worker_by me.0.own) r)
+      → MayRead (initial_state_of o) (after (initial_state_of o) h.steps).state (worker_by me.0.own_steps) r)
       → Allows (Holds o) slots id me (counter_at o k) (λ _. x) (λ _ me'. WorkerGains r me me')
   store_allowed r x slots id k me is stores reads s h len at range =
       let read = reads s h in

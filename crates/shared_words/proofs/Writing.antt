@@ -88,16 +88,16 @@ module _ (o : InitialData) where
 
   -- a step of the writer
   pub writer_step : (s : St) (h : Holds o s) (id : ℕ) (v : View) (step : WriterStep) (words : List ℕ)
-      → get_elem? s.views id ≡ some v → v.role ≡ Writer → MayStep (initial_state_of o) v.seen step
+      → get_elem? s.views id ≡ some v → v.role ≡ Writer → MayStep (initial_state_of o) v.writer_steps step
       → FindsCounter (initial_state_of o) h.steps step → IsLaidAfter words (world_by h.steps) step
       → Holds o (with_words s words (slice_set s.views id (with_step v step)))
   writer_step s h id v step words here was may found laid =
       let steps = h.steps in
       let new : List TraceStep = ByWriter step ∷ steps in
       let mine : Sits o steps h.seating id v Writer = sits_writer s h id v here was in
-      let told : IsLater v.told (writes steps) = (h.views id v here).told in
+      let told : IsLater v.heard (writes steps) = (h.views id v here).heard in
       let w : View = with_step v step in
-      let seen : w.seen ≡ writes new = ap (λ (z : List WriterStep). step ∷ z) mine.2 in
+      let seen : w.writer_steps ≡ writes new = ap (λ (z : List WriterStep). step ∷ z) mine.2 in
       let sits : Sits o new h.seating id w Writer = (mine.0, mine.1, seen, mine.3) in
       let may' = subst (λ (z : List WriterStep). MayStep (initial_state_of o) z step) mine.2 may in
       record {
@@ -111,13 +111,13 @@ module _ (o : InitialData) where
         views = seats_set (IsViewOf o new h.seating) s.views id w
             (record {
               sits = subst (Sits o new h.seating id w) (sym was) sits;
-              seen = ([], sym seen);
-              told = later_more v.told (writes steps) step told;
+              writer_steps = ([], sym seen);
+              heard = later_more v.heard (writes steps) step told;
             })
             (λ j u other there. let f = h.views j u there in record {
               sits = aside o steps h.seating id step mine.0 j u other u.role f.sits;
-              seen = later_more u.seen (writes steps) step f.seen;
-              told = later_more u.told (writes steps) step f.told;
+              writer_steps = later_more u.writer_steps (writes steps) step f.writer_steps;
+              heard = later_more u.heard (writes steps) step f.heard;
             });
       }
 
@@ -139,9 +139,9 @@ module _ (o : InitialData) where
       }
 
   -- and those of its view, with one more that may come next
-  lawful_after : (s : St) (h : Holds o s) (v : View) (step : WriterStep) → v.initial ≡ o → v.seen ≡ writes h.steps
-      → MayStep (initial_state_of o) v.seen step → FindsCounter (initial_state_of o) h.steps step
-      → AreLawful v.initial (step ∷ v.seen)
+  lawful_after : (s : St) (h : Holds o s) (v : View) (step : WriterStep) → v.initial ≡ o → v.writer_steps ≡ writes h.steps
+      → MayStep (initial_state_of o) v.writer_steps step → FindsCounter (initial_state_of o) h.steps step
+      → AreLawful v.initial (step ∷ v.writer_steps)
   lawful_after s h v step initial seen may found =
       let c = initial_state_of o in
       let may' = subst (λ (z : List WriterStep). MayStep c z step) seen may in
@@ -169,7 +169,7 @@ module _ (o : InitialData) where
   -- the calls of the writer's seat, at a place of the words
   module _ (slots id at : ℕ) (me : Mine) (was : me.0.role ≡ Writer) where
     abbrev seen : List WriterStep
-    seen = me.0.seen
+    seen = me.0.writer_steps
 
     -- a store: the word becomes n
     store_allowed : (n : ℕ) (step : WriterStep) → MayFollow me.0 step
@@ -352,16 +352,16 @@ module _ (o : InitialData) where
       seats_set K s.views id left
       (record {
         sits = subst (Sits o steps now id left) (sym was) writer_sits;
-        seen = knows.seen;
-        told = knows.told;
+        writer_steps = knows.writer_steps;
+        heard = knows.heard;
       })
       (λ j u other there. let f = h.views j u there in record {
         sits = one_more steps h.seating x id mine.0 j u other u.role f.sits;
-        seen = f.seen;
-        told = f.told;
+        writer_steps = f.writer_steps;
+        heard = f.heard;
       }) in
       let new : K x right =
-      record { sits = worker_sits; seen = knows.seen; told = later_none (writes steps) } in
+      record { sits = worker_sits; writer_steps = knows.writer_steps; heard = later_none (writes steps) } in
       record {
         steps = steps;
         seating = now;
@@ -383,7 +383,7 @@ module _ (o : InitialData) where
 
   first_seat : (j : ℕ) (u : View) → get_elem? (writer_view o ∷ []) j ≡ some u → IsViewOf o [] alone j u
   first_seat zero u e = subst (IsViewOf o [] alone 0) (some-injective (writer_view o) u e)
-      (record { sits = (refl, refl, refl, refl); seen = ([], refl); told = ([], refl) })
+      (record { sits = (refl, refl, refl, refl); writer_steps = ([], refl); heard = ([], refl) })
   first_seat (suc j) u e = absurd (some-ne-none u (sym e))
 
   pub opens : (words : List ℕ) → words ≡ initial_words o → IsSettled (initial_state_of o)

@@ -79,14 +79,14 @@ GainsAll (s ∷ steps) v w = (u : View) × GainsAll steps v u × Gains s u w
 
 -- nothing else of the view changes, and what it has seen of the writer's steps goes on
 pub record GoesOn (v w : View) : Type 0 where
-  pub same : w ≡ record v { own = w.own; seen = w.seen }
-  pub later : IsLater v.seen w.seen
+  pub same : w ≡ record v { own_steps = w.own_steps; writer_steps = w.writer_steps }
+  pub later : IsLater v.writer_steps w.writer_steps
 
 -- the view gains these steps, each at its place: how many of the writer's steps the worker had seen then
 abbrev pub GainsAt : List (WorkerStep × ℕ) → View → View → Type 0
 GainsAt [] v w = w ≡ v
 GainsAt (s ∷ steps) v w =
-    (u : View) × GainsAt steps v u × (gains : Gains s.0 u w) × (s.1 ≡ length gains.seen)
+    (u : View) × GainsAt steps v u × (gains : Gains s.0 u w) × (s.1 ≡ length gains.writer_steps)
 
 -- ---- a lookup
 
@@ -97,8 +97,8 @@ pub record LoadsAround (addrs : List ℕ) (lo hi : ℕ) (v started loaded w : Vi
   pub begins : Gains (BeginLookup addrs low) v started
   pub high : ℕ
   pub ends : Gains (EndLookup high) loaded w
-  pub done_then : lo ≡ updates_done_in (state_after (initial_state_of v.initial) started.seen)
-  pub begun_then : hi ≡ updates_begun_in (state_after (initial_state_of v.initial) w.seen)
+  pub done_then : lo ≡ updates_done_in (state_after (initial_state_of v.initial) started.writer_steps)
+  pub begun_then : hi ≡ updates_begun_in (state_after (initial_state_of v.initial) w.writer_steps)
 
 -- the address is looked up: the sequence is loaded, its words, and the sequence again. This is the
 -- worker's newest lookup. It is legal, and its words were loaded after all that the worker had seen of the
@@ -112,10 +112,10 @@ pub record LooksUp (addr : ℕ) (hop : Option ℕ) (lo hi : ℕ) (v w : View) : 
   pub exact : IsReadOn (entry_in found.word) found.second found.hop
   pub answer : (found.addr ≡ addr) × (found.hop ≡ hop)
   pub rest : GoesOn v w
-  pub online : (worker_by w.own).phase ≡ Online
-  pub finished : (worker_by w.own).finished ≡ seen_of lo hi found ∷ (worker_by v.own).finished
-  pub after : length started.seen ≤ found.first
-  pub legal : IsLegalAtPlace (initial_state_of v.initial) w.seen (seen_of lo hi found)
+  pub online : (worker_by w.own_steps).phase ≡ Online
+  pub finished : (worker_by w.own_steps).finished ≡ seen_of lo hi found ∷ (worker_by v.own_steps).finished
+  pub after : length started.writer_steps ≤ found.first
+  pub legal : IsLegalAtPlace (initial_state_of v.initial) w.writer_steps (seen_of lo hi found)
 
 -- ---- a lookup of several addresses
 
@@ -136,9 +136,9 @@ pub record LoadsFirsts (addrs words : List ℕ) (v w : View) : Type 0 where
   pub count : length places ≡ length addrs
   pub steps : GainsAt (loads_first places words) v w
   pub rest : GoesOn v w
-  pub after : All (λ place. length v.seen ≤ place) places
-  pub state : worker_by w.own
-      ≡ record (worker_by v.own) { probes = first_words places addrs words }
+  pub after : All (λ place. length v.writer_steps ≤ place) places
+  pub state : worker_by w.own_steps
+      ≡ record (worker_by v.own_steps) { probes = first_words places addrs words }
 
 -- the next address without its answer is this one, with this first word
 pub record IsNextWith (addr word : ℕ) (probes : List Probe) : Type 0 where
@@ -154,8 +154,8 @@ pub record IsNextWith (addr word : ℕ) (probes : List Probe) : Type 0 where
 -- in the first table
 pub record LooksFor (first second addr word : ℕ) (v : View) : Type 0 where
   pub fit : IsFirstWord (first + second) second v.initial.seconds word
-  pub looking : (worker_by v.own).phase ≡ LookingUp
-  pub next : IsNextWith addr word (worker_by v.own).probes
+  pub looking : (worker_by v.own_steps).phase ≡ LookingUp
+  pub next : IsNextWith addr word (worker_by v.own_steps).probes
 
 -- the word that answers is loaded, where that isn't the first word
 pub record LoadsLast (addr word last : ℕ) (v w : View) : Type 0 where
@@ -163,8 +163,8 @@ pub record LoadsLast (addr word last : ℕ) (v w : View) : Type 0 where
   pub steps : GainsAt (second_load second) v w
   pub exact : IsReadOn (entry_in word) second (hop_in (entry_in last))
   pub rest : GoesOn v w
-  pub state : (next : IsNextWith addr word (worker_by v.own).probes)
-      → worker_by w.own ≡ record (worker_by v.own) {
+  pub state : (next : IsNextWith addr word (worker_by v.own_steps).probes)
+      → worker_by w.own_steps ≡ record (worker_by v.own_steps) {
         probes = next.before
             ++ Answered addr (hop_in (entry_in last)) next.first (last_at next.first second) ∷ next.rest;
       }
@@ -183,8 +183,8 @@ pub record LooksUpAll (addrs : List ℕ) (hops : List (Option ℕ)) (lo hi : ℕ
   pub addrs_are : map (λ (f : AddressLookup). f.addr) found ≡ addrs
   pub hops_are : map (λ (f : AddressLookup). f.hop) found ≡ hops
   pub rest : GoesOn v w
-  pub online : (worker_by w.own).phase ≡ Online
-  pub finished : (worker_by w.own).finished
-      ≡ reverse (map (seen_of lo hi) found) ++ (worker_by v.own).finished
-  pub after : All (λ f. length started.seen ≤ f.first) found
-  pub legal : All (λ f. IsLegalAtPlace (initial_state_of v.initial) w.seen (seen_of lo hi f)) found
+  pub online : (worker_by w.own_steps).phase ≡ Online
+  pub finished : (worker_by w.own_steps).finished
+      ≡ reverse (map (seen_of lo hi) found) ++ (worker_by v.own_steps).finished
+  pub after : All (λ f. length started.writer_steps ≤ f.first) found
+  pub legal : All (λ f. IsLegalAtPlace (initial_state_of v.initial) w.writer_steps (seen_of lo hi f)) found

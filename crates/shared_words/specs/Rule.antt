@@ -27,17 +27,17 @@ pub record Seating : Type 0 where
 -- what a seat knows is of the trace: the writer knows all its steps, and a worker all its own
 abbrev pub Sits : InitialData → List TraceStep → Seating → ℕ → View → Role → Type 0
 Sits o steps seating seat v Writer = (seat ≡ seating.writer) × (v.initial ≡ o)
-    × (v.seen ≡ writes steps) × (v.made ≡ seating.made)
+    × (v.writer_steps ≡ writes steps) × (v.made ≡ seating.made)
 Sits o steps seating seat v (Worker k) = (seat ≡ seating.seat_of k) × (v.initial ≡ o)
-    × (k < seating.made) × (v.own ≡ own_steps k steps)
+    × (k < seating.made) × (v.own_steps ≡ own_steps k steps)
 Sits o steps seating seat v Note = ⊤
 
 -- and what it has seen and was told is a beginning of the writer's steps
 pub record IsViewOf (o : InitialData) (steps : List TraceStep) (seating : Seating) (seat : ℕ) (v : View)
     : Type 0 where
   pub sits : Sits o steps seating seat v v.role
-  pub seen : IsLater v.seen (writes steps)
-  pub told : IsLater v.told (writes steps)
+  pub writer_steps : IsLater v.writer_steps (writes steps)
+  pub heard : IsLater v.heard (writes steps)
 
 -- there is a trace after which the words are these, and which has the steps of each seat
 pub record Holds (o : InitialData) (s : State (Unit {0}) View) : Type 0 where
@@ -55,7 +55,7 @@ pub record Holds (o : InitialData) (s : State (Unit {0}) View) : Type 0 where
 
 -- the writer's, which the table is opened with
 abbrev pub writer_view : InitialData → View
-writer_view o = record { initial = o; role = Writer; made = 0; own = []; seen = []; told = [] }
+writer_view o = record { initial = o; role = Writer; made = 0; own_steps = []; writer_steps = []; heard = [] }
 
 -- that of the next worker, once its seat is cut off the writer's
 abbrev pub worker_view : View → View
@@ -63,9 +63,9 @@ worker_view v = record {
   initial = v.initial;
   role = Worker v.made;
   made = 0;
-  own = [];
-  seen = v.seen;
-  told = [];
+  own_steps = [];
+  writer_steps = v.writer_steps;
+  heard = [];
 }
 
 abbrev pub with_one_more : View → View
@@ -77,9 +77,9 @@ note_of v = record {
   initial = v.initial;
   role = Note;
   made = 0;
-  own = [];
-  seen = v.seen;
-  told = [];
+  own_steps = [];
+  writer_steps = v.writer_steps;
+  heard = [];
 }
 
 -- what is left of a note that was read
@@ -88,11 +88,11 @@ read_note = record {
   initial = no_initial_data;
   role = Note;
   made = 0;
-  own = [];
-  seen = [];
-  told = [];
+  own_steps = [];
+  writer_steps = [];
+  heard = [];
 }
 
 -- a seat was told what the note says
 abbrev pub view_with_note : View → View → View
-view_with_note v note = record v { told = note.seen }
+view_with_note v note = record v { heard = note.writer_steps }

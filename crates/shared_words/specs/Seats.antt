@@ -50,15 +50,15 @@ pub record IsOf (w : WordsAt) (seat : TableId) (v : View) : Type 0 where
 
 -- what the steps of the writer's view leave
 abbrev pub state_of_view : View → TableState
-state_of_view v = state_after (initial_state_of v.initial) v.seen
+state_of_view v = state_after (initial_state_of v.initial) v.writer_steps
 
 -- the step may follow those of the writer's view
 abbrev pub MayFollow : View → WriterStep → Type 0
-MayFollow v s = MayStep (initial_state_of v.initial) v.seen s
+MayFollow v s = MayStep (initial_state_of v.initial) v.writer_steps s
 
 -- the writer's view after a step of its own
 abbrev pub with_step : View → WriterStep → View
-with_step v s = record v { seen = s ∷ v.seen }
+with_step v s = record v { writer_steps = s ∷ v.writer_steps }
 
 -- each token up to the greatest that has passed was checked
 abbrev pub AreChecked : InitialData → List WriterStep → Type 0
@@ -74,7 +74,7 @@ pub record AreLawful (o : InitialData) (seen : List WriterStep) : Type 0 where
 
 -- the writer's step is made, and its steps are lawful then
 abbrev pub WriterGains : WriterStep → Me (Unit {0}) View → Me (Unit {0}) View → Type 0
-WriterGains s me me' = (me' ≡ (with_step me.0 s, me.1)) × AreLawful me'.0.initial me'.0.seen
+WriterGains s me me' = (me' ≡ (with_step me.0 s, me.1)) × AreLawful me'.0.initial me'.0.writer_steps
 
 -- what callers see of the writer's seat: at which table it is, and what it knows
 pub record WriterAt : Type 0 where
@@ -89,8 +89,8 @@ coded_writer = code_by (TableId × View) (coded× table_id_coded view_row.the_ro
 pub record IsWriterSeat (me : Me (Unit {0}) View) : Type 0 where
   pub alone : me.1 ≡ []
   pub role : me.0.role ≡ AsWriter
-  pub told : me.0.told ≡ []
-  pub lawful : AreLawful me.0.initial me.0.seen
+  pub heard : me.0.heard ≡ []
+  pub lawful : AreLawful me.0.initial me.0.writer_steps
 
 -- a load of a word that the writer alone changes is no step, and finds what its own steps left
 pub record IsFoundAt (o : InitialData) (seen : List WriterStep) (at word : ℕ) : Type 0 where
@@ -102,7 +102,7 @@ pub record IsFoundAt (o : InitialData) (seen : List WriterStep) (at word : ℕ) 
   pub token : at ≡ token_at → word ≡ (state_after (initial_state_of o) seen).token
 
 abbrev pub WriterLooks : Step (Unit {0}) → Me (Unit {0}) View → ℕ → Me (Unit {0}) View → Type 0
-WriterLooks s me x me' = (me' ≡ me) × IsFoundAt me.0.initial me.0.seen s.word x
+WriterLooks s me x me' = (me' ≡ me) × IsFoundAt me.0.initial me.0.writer_steps s.word x
 
 -- ---- a worker
 
@@ -110,19 +110,19 @@ WriterLooks s me x me' = (me' ≡ me) × IsFoundAt me.0.initial me.0.seen s.word
 -- at places among them that never fall, each may come at its place, and each lookup that it has finished
 -- is legal
 pub record IsSound (v : View) : Type 0 where
-  pub written : IsWritten (initial_state_of v.initial) v.seen
-  pub words : IsWords v.initial.first v.initial.second (state_after (initial_state_of v.initial) v.seen).words
-  pub rising : AllPairs (λ later earlier. earlier.1 ≤ later.1) v.own
-  pub within : All (λ step. step.1 ≤ length v.seen) v.own
-  pub placed : ArePlaced (initial_state_of v.initial) v.seen v.own
-  pub legal : All (IsLegalAtPlace (initial_state_of v.initial) v.seen) (worker_by v.own).finished
+  pub written : IsWritten (initial_state_of v.initial) v.writer_steps
+  pub words : IsWords v.initial.first v.initial.second (state_after (initial_state_of v.initial) v.writer_steps).words
+  pub rising : AllPairs (λ later earlier. earlier.1 ≤ later.1) v.own_steps
+  pub within : All (λ step. step.1 ≤ length v.writer_steps) v.own_steps
+  pub placed : ArePlaced (initial_state_of v.initial) v.writer_steps v.own_steps
+  pub legal : All (IsLegalAtPlace (initial_state_of v.initial) v.writer_steps) (worker_by v.own_steps).finished
 
 -- the worker's own list gains the step, at the place of what it has seen of the writer's steps then
 pub record Gains (s : WorkerStep) (v w : View) : Type 0 where
-  pub seen : List WriterStep
-  pub view : w ≡ record v { own = (s, length seen) ∷ v.own; seen = seen }
-  pub later : IsLater v.seen seen
-  pub told : IsLater v.told seen
+  pub writer_steps : List WriterStep
+  pub view : w ≡ record v { own_steps = (s, length writer_steps) ∷ v.own_steps; writer_steps = writer_steps }
+  pub later : IsLater v.writer_steps writer_steps
+  pub heard : IsLater v.heard writer_steps
 
 abbrev pub WorkerGains : WorkerStep → Me (Unit {0}) View → Me (Unit {0}) View → Type 0
 WorkerGains s me me' = (me'.1 ≡ me.1) × Gains s me.0 me'.0 × IsSound me'.0
@@ -174,4 +174,4 @@ IsSecondAt second j (Answered a h f l ∷ rest) = IsSecondAt second j rest
 
 -- the seat was told of nothing but steps that the writer made, and forgets them
 abbrev pub SeatCompares : Step (Unit {0}) → Me (Unit {0}) View → ℕ → Me (Unit {0}) View → Type 0
-SeatCompares s me x me' = (me' ≡ (record me.0 { told = [] }, me.1)) × IsLater me.0.told me.0.seen
+SeatCompares s me x me' = (me' ≡ (record me.0 { heard = [] }, me.1)) × IsLater me.0.heard me.0.writer_steps

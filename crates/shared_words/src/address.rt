@@ -24,7 +24,7 @@ pub fn lookup_address<const FIRST: u32, const SECOND: u32, T: InitialContent>(
     requires shape { IsShape FIRST SECOND }
     requires first { seat.old.view.initial.first ≡ FIRST }
     requires second { seat.old.view.initial.second ≡ SECOND }
-    requires online { (worker_by seat.old.view.own).phase ≡ Online }
+    requires online { (worker_by seat.old.view.own_steps).phase ≡ Online }
     requires addr { addr < 2 ^ (FIRST + SECOND) }
     ensures own { seat.new.table ≡ seat.old.table }
     ensures worker { seat.new.worker ≡ seat.old.worker }

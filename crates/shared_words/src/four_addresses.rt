@@ -38,7 +38,7 @@ pub fn lookup_four_addresses<const FIRST: u32, const SECOND: u32, T: InitialCont
     requires shape { IsShape FIRST SECOND }
     requires first { seat.old.view.initial.first ≡ FIRST }
     requires second { seat.old.view.initial.second ≡ SECOND }
-    requires online { (worker_by seat.old.view.own).phase ≡ Online }
+    requires online { (worker_by seat.old.view.own_steps).phase ≡ Online }
     requires addrs { All (λ addr. addr < 2 ^ (FIRST + SECOND)) (a ∷ b ∷ c ∷ d ∷ []) }
     ensures own { seat.new.table ≡ seat.old.table }
     ensures worker { seat.new.worker ≡ seat.old.worker }
@@ -82,8 +82,8 @@ fn load_firsts<const FIRST: u32, const SECOND: u32, T: InitialContent>(
     requires second { seat.old.view.initial.second ≡ SECOND }
     requires firsts { length seat.old.view.initial.firsts ≡ 2 ^ FIRST }
     requires addrs { All (λ addr. addr < 2 ^ (FIRST + SECOND)) (a ∷ b ∷ c ∷ d ∷ []) }
-    requires looking { (worker_by seat.old.view.own).phase ≡ LookingUp }
-    requires unread { (worker_by seat.old.view.own).probes
+    requires looking { (worker_by seat.old.view.own_steps).phase ≡ LookingUp }
+    requires unread { (worker_by seat.old.view.own_steps).probes
         ≡ Unread a ∷ Unread b ∷ Unread c ∷ Unread d ∷ [] }
     ensures own { seat.new.table ≡ seat.old.table }
     ensures worker { seat.new.worker ≡ seat.old.worker }

@@ -12,13 +12,13 @@ use crate::{InitialContent, SharedWords, WorkerSeat};
 #[inline]
 pub fn report_online<T: InitialContent>(seat: &mut WorkerSeat, table: &SharedWords<T>)
     requires own { IsOf table.now seat.old.table seat.old.view }
-    requires offline { (worker_by seat.old.view.own).phase ≡ Offline }
+    requires offline { (worker_by seat.old.view.own_steps).phase ≡ Offline }
     ensures own { seat.new.table ≡ seat.old.table }
     ensures worker { seat.new.worker ≡ seat.old.worker }
     ensures steps { (token : ℕ) × GainsAll (StoreOnline token ∷ LoadOnline token ∷ [])
         seat.old.view seat.new.view }
     ensures rest { GoesOn seat.old.view seat.new.view }
-    ensures online { (worker_by seat.new.view.own).phase ≡ Online }
+    ensures online { (worker_by seat.new.view.own_steps).phase ≡ Online }
 {
     let token = seat.load_online(table);
     seat.store_online(table, token);
@@ -28,13 +28,13 @@ pub fn report_online<T: InitialContent>(seat: &mut WorkerSeat, table: &SharedWor
 #[inline]
 pub fn report_quiescent<T: InitialContent>(seat: &mut WorkerSeat, table: &SharedWords<T>)
     requires own { IsOf table.now seat.old.table seat.old.view }
-    requires online { (worker_by seat.old.view.own).phase ≡ Online }
+    requires online { (worker_by seat.old.view.own_steps).phase ≡ Online }
     ensures own { seat.new.table ≡ seat.old.table }
     ensures worker { seat.new.worker ≡ seat.old.worker }
     ensures steps { (token : ℕ) × GainsAll (StoreQuiescent token ∷ LoadQuiescent token ∷ [])
         seat.old.view seat.new.view }
     ensures rest { GoesOn seat.old.view seat.new.view }
-    ensures online { (worker_by seat.new.view.own).phase ≡ Online }
+    ensures online { (worker_by seat.new.view.own_steps).phase ≡ Online }
 {
     let token = seat.load_quiescent(table);
     seat.store_quiescent(table, token);
@@ -44,12 +44,12 @@ pub fn report_quiescent<T: InitialContent>(seat: &mut WorkerSeat, table: &Shared
 #[inline]
 pub fn report_offline<T: InitialContent>(seat: &mut WorkerSeat, table: &SharedWords<T>)
     requires own { IsOf table.now seat.old.table seat.old.view }
-    requires online { (worker_by seat.old.view.own).phase ≡ Online }
+    requires online { (worker_by seat.old.view.own_steps).phase ≡ Online }
     ensures own { seat.new.table ≡ seat.old.table }
     ensures worker { seat.new.worker ≡ seat.old.worker }
     ensures steps { GainsAll (StoreOffline ∷ []) seat.old.view seat.new.view }
     ensures rest { GoesOn seat.old.view seat.new.view }
-    ensures offline { (worker_by seat.new.view.own).phase ≡ Offline }
+    ensures offline { (worker_by seat.new.view.own_steps).phase ≡ Offline }
 {
     seat.store_offline(table);
 }

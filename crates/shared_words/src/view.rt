@@ -23,9 +23,9 @@ pub struct View {
     /// How many workers' seats were made, for the writer.
     pub made: u64,
     /// A worker's own steps, each with its place: how many of the writer's steps were made before it.
-    pub own: LinkedList<(WorkerStep, u64)>,
+    pub own_steps: LinkedList<(WorkerStep, u64)>,
     /// The steps of the writer that this seat has seen. The writer's own seat has seen all.
-    pub seen: LinkedList<WriterStep>,
-    /// The steps of the writer that this seat was told of.
-    pub told: LinkedList<WriterStep>,
+    pub writer_steps: LinkedList<WriterStep>,
+    /// The steps of the writer that this seat has heard of, by a note of another seat.
+    pub heard: LinkedList<WriterStep>,
 }

@@ -67,7 +67,7 @@ impl WorkerSeat {
     #[inline]
     pub fn load_online<T: InitialContent>(&mut self, table: &SharedWords<T>) -> u64
         requires own { IsOf table.now self.old.table self.old.view }
-        requires offline { (worker_by self.old.view.own).phase ≡ Offline }
+        requires offline { (worker_by self.old.view.own_steps).phase ≡ Offline }
         ensures own { self.new.table ≡ self.old.table }
         ensures worker { self.new.worker ≡ self.old.worker }
         ensures step { Gains (LoadOnline result) self.old.view self.new.view }
@@ -80,7 +80,7 @@ impl WorkerSeat {
     #[inline]
     pub fn store_online<T: InitialContent>(&mut self, table: &SharedWords<T>, token: u64)
         requires own { IsOf table.now self.old.table self.old.view }
-        requires loaded { (worker_by self.old.view.own).phase ≡ ComingOnline token }
+        requires loaded { (worker_by self.old.view.own_steps).phase ≡ ComingOnline token }
         ensures own { self.new.table ≡ self.old.table }
         ensures worker { self.new.worker ≡ self.old.worker }
         ensures step { Gains (StoreOnline token) self.old.view self.new.view }
@@ -94,7 +94,7 @@ impl WorkerSeat {
     #[inline]
     pub fn load_quiescent<T: InitialContent>(&mut self, table: &SharedWords<T>) -> u64
         requires own { IsOf table.now self.old.table self.old.view }
-        requires online { (worker_by self.old.view.own).phase ≡ Online }
+        requires online { (worker_by self.old.view.own_steps).phase ≡ Online }
         ensures own { self.new.table ≡ self.old.table }
         ensures worker { self.new.worker ≡ self.old.worker }
         ensures step { Gains (LoadQuiescent result) self.old.view self.new.view }
@@ -107,7 +107,7 @@ impl WorkerSeat {
     #[inline]
     pub fn store_quiescent<T: InitialContent>(&mut self, table: &SharedWords<T>, token: u64)
         requires own { IsOf table.now self.old.table self.old.view }
-        requires loaded { (worker_by self.old.view.own).phase ≡ ReportingQuiescent token }
+        requires loaded { (worker_by self.old.view.own_steps).phase ≡ ReportingQuiescent token }
         ensures own { self.new.table ≡ self.old.table }
         ensures worker { self.new.worker ≡ self.old.worker }
         ensures step { Gains (StoreQuiescent token) self.old.view self.new.view }
@@ -121,7 +121,7 @@ impl WorkerSeat {
     #[inline]
     pub fn store_offline<T: InitialContent>(&mut self, table: &SharedWords<T>)
         requires own { IsOf table.now self.old.table self.old.view }
-        requires online { (worker_by self.old.view.own).phase ≡ Online }
+        requires online { (worker_by self.old.view.own_steps).phase ≡ Online }
         ensures own { self.new.table ≡ self.old.table }
         ensures worker { self.new.worker ≡ self.old.worker }
         ensures step { Gains StoreOffline self.old.view self.new.view }
@@ -135,7 +135,7 @@ impl WorkerSeat {
     #[inline]
     pub fn begin_lookup<T: InitialContent>(&mut self, table: &SharedWords<T>, addrs: &[u64]) -> u64
         requires own { IsOf table.now self.old.table self.old.view }
-        requires online { (worker_by self.old.view.own).phase ≡ Online }
+        requires online { (worker_by self.old.view.own_steps).phase ≡ Online }
         requires addrs { All (λ a. a < addresses (initial_state_of self.old.view.initial)) addrs.now }
         ensures own { self.new.table ≡ self.old.table }
         ensures worker { self.new.worker ≡ self.old.worker }
@@ -150,9 +150,9 @@ impl WorkerSeat {
     pub fn load_first<T: InitialContent>(&mut self, table: &SharedWords<T>, i: usize) -> u64
         requires own { IsOf table.now self.old.table self.old.view }
         requires index { i < table.now.layout.firsts }
-        requires looking { (worker_by self.old.view.own).phase ≡ LookingUp }
+        requires looking { (worker_by self.old.view.own_steps).phase ≡ LookingUp }
         requires next { IsFirstAt self.old.view.initial.second i
-            (worker_by self.old.view.own).probes }
+            (worker_by self.old.view.own_steps).probes }
         ensures own { self.new.table ≡ self.old.table }
         ensures worker { self.new.worker ≡ self.old.worker }
         ensures step { Gains (FirstLoad result) self.old.view self.new.view }
@@ -170,10 +170,10 @@ impl WorkerSeat {
     pub fn load_second<T: InitialContent>(&mut self, table: &SharedWords<T>, j: usize) -> u64
         requires own { IsOf table.now self.old.table self.old.view }
         requires index { j < table.now.layout.seconds }
-        requires looking { (worker_by self.old.view.own).phase ≡ LookingUp }
-        requires begun { AreBegun (worker_by self.old.view.own).probes }
+        requires looking { (worker_by self.old.view.own_steps).phase ≡ LookingUp }
+        requires begun { AreBegun (worker_by self.old.view.own_steps).probes }
         requires next { IsSecondAt self.old.view.initial.second j
-            (worker_by self.old.view.own).probes }
+            (worker_by self.old.view.own_steps).probes }
         ensures own { self.new.table ≡ self.old.table }
         ensures worker { self.new.worker ≡ self.old.worker }
         ensures step { Gains (SecondLoad result) self.old.view self.new.view }
@@ -189,8 +189,8 @@ impl WorkerSeat {
     #[inline]
     pub fn end_lookup<T: InitialContent>(&mut self, table: &SharedWords<T>) -> u64
         requires own { IsOf table.now self.old.table self.old.view }
-        requires looking { (worker_by self.old.view.own).phase ≡ LookingUp }
-        requires answered { AreAnswered (worker_by self.old.view.own).probes }
+        requires looking { (worker_by self.old.view.own_steps).phase ≡ LookingUp }
+        requires answered { AreAnswered (worker_by self.old.view.own_steps).probes }
         ensures own { self.new.table ≡ self.old.table }
         ensures worker { self.new.worker ≡ self.old.worker }
         ensures step { Gains (EndLookup result) self.old.view self.new.view }
@@ -203,14 +203,14 @@ impl WorkerSeat {
     /// it was.
     pub fn meet<T: InitialContent>(&mut self, table: &SharedWords<T>, writer: &mut WriterSeat)
         requires own { IsOf table.now self.old.table self.old.view }
-        requires between { IsBetweenDeeds (worker_by self.old.view.own).phase }
+        requires between { IsBetweenDeeds (worker_by self.old.view.own_steps).phase }
         requires writer { IsOf table.now writer.old.table writer.old.view }
         ensures own { self.new.table ≡ self.old.table }
         ensures worker { self.new.worker ≡ self.old.worker }
         ensures step { (number : ℕ) × Gains (MeetWriter number)
-            (record self.old.view { told = writer.old.view.seen })
+            (record self.old.view { heard = writer.old.view.writer_steps })
             self.new.view }
-        ensures all { self.new.view.seen ≡ writer.old.view.seen }
+        ensures all { self.new.view.writer_steps ≡ writer.old.view.writer_steps }
         ensures same { writer.new ≡ writer.old }
     {
         let at = Layout::SEQUENCE;

@@ -36,7 +36,7 @@ impl WriterSeat {
     /// Does nothing: its contract says what the writer's steps are.
     #[inline]
     pub fn history(&self)
-        ensures { AreLawful self.now.view.initial self.now.view.seen }
+        ensures { AreLawful self.now.view.initial self.now.view.writer_steps }
     {
         let _ = &self.place;
     }

@@ -29,7 +29,7 @@ use Rattle.storm.specs.declared.looking.Worker.{Worker}
 
 -- the answers are those of the pass, each of whose lookups is of a version
 abbrev pub AreTold : InitialState → PassState → List (ℕ × Answer) → Type 0
-AreTold c p xs = (xs ≡ answers_by p) × All (IsOfAStandingVersion c p.seen) (lookups_of p)
+AreTold c p xs = (xs ≡ answers_by p) × All (IsOfAStandingVersion c p.writer_steps) (lookups_of p)
 
 versions_later : (c : InitialState) (before after : List WriterStep) (xs : List FinishedLookup) → IsLater before after
     → All (IsOfAStandingVersion c before) xs → All (IsOfAStandingVersion c after) xs
@@ -38,11 +38,11 @@ versions_later c before after xs later all k d below =
     (h.0, of_version_still c before after later _ h.0 h.1)
 
 -- steps that end no lookup leave the lookups as they are
-pub told_on : (c : InitialState) (p q : PassState) (xs : List (ℕ × Answer)) → lookups_of q ≡ lookups_of p → IsLater p.seen q.seen
+pub told_on : (c : InitialState) (p q : PassState) (xs : List (ℕ × Answer)) → lookups_of q ≡ lookups_of p → IsLater p.writer_steps q.writer_steps
     → AreTold c p xs → AreTold c q xs
 told_on c p q xs same later told = (
   told.0 ∙ sym (ap (map answer_of) same),
-  subst (All (IsOfAStandingVersion c q.seen)) (sym same) (versions_later c p.seen q.seen (lookups_of p) later told.1),
+  subst (All (IsOfAStandingVersion c q.writer_steps)) (sym same) (versions_later c p.writer_steps q.writer_steps (lookups_of p) later told.1),
 )
 
 -- the step ends no lookup
@@ -83,21 +83,21 @@ module _ (p q : PassState) (addr : ℕ) (answer : Answer) (looks : LooksUp addr 
       ∙ (map-append answer_of (lookups_of p) (seen ∷ [])
       ∙ ap (λ (x : ℕ × Answer). answers_by p ++ x ∷ []) answer_is)
 
-  legal : IsLegalAtPlace (initial_state q.table) q.seen seen
-  legal = All-head (IsLegalAtPlace (initial_state q.table) q.seen) seen (worker_by p.steps).finished
-      (subst (All (IsLegalAtPlace (initial_state q.table) q.seen)) finished history.legal)
+  legal : IsLegalAtPlace (initial_state q.table) q.writer_steps seen
+  legal = All-head (IsLegalAtPlace (initial_state q.table) q.writer_steps) seen (worker_by p.steps).finished
+      (subst (All (IsLegalAtPlace (initial_state q.table) q.writer_steps)) finished history.legal)
 
   pub told_more : (c : InitialState) (xs : List (ℕ × Answer)) → initial_state p.table ≡ c → AreTold c p xs
       → AreTold c q (xs ++ (addr, answer) ∷ [])
   told_more c xs own told =
       let same : initial_state q.table ≡ c = ap initial_state looks.steps.table ∙ own in
-      let here : IsLegalAtPlace c q.seen seen = subst (λ (s : InitialState). IsLegalAtPlace s q.seen seen) same legal in
-      let this : IsOfAStandingVersion c q.seen seen = (shown c q.seen seen here, of_shown c q.seen seen here) in
-      let before = versions_later c p.seen q.seen (lookups_of p) looks.steps.seen told.1 in (
+      let here : IsLegalAtPlace c q.writer_steps seen = subst (λ (s : InitialState). IsLegalAtPlace s q.writer_steps seen) same legal in
+      let this : IsOfAStandingVersion c q.writer_steps seen = (shown c q.writer_steps seen here, of_shown c q.writer_steps seen here) in
+      let before = versions_later c p.writer_steps q.writer_steps (lookups_of p) looks.steps.writer_steps told.1 in (
         ap (λ (ys : List (ℕ × Answer)). ys ++ (addr, answer) ∷ []) told.0 ∙ sym answers_are,
-        subst (All (IsOfAStandingVersion c q.seen)) (sym newest)
-            (All-append (IsOfAStandingVersion c q.seen) (lookups_of p) (seen ∷ []) before
-            (All-cons (IsOfAStandingVersion c q.seen) seen [] this (All-nil (IsOfAStandingVersion c q.seen)))),
+        subst (All (IsOfAStandingVersion c q.writer_steps)) (sym newest)
+            (All-append (IsOfAStandingVersion c q.writer_steps) (lookups_of p) (seen ∷ []) before
+            (All-cons (IsOfAStandingVersion c q.writer_steps) seen [] this (All-nil (IsOfAStandingVersion c q.writer_steps)))),
       )
 
 -- ---- a pass that meets the writer
@@ -107,15 +107,15 @@ pub addresses_same : (p : PassState) → map (λ x. x.0) (answers_by p) ≡ map 
 addresses_same p = map-map (λ (x : ℕ × Answer). x.0) answer_of (lookups_of p)
 
 pub looked_up : (id : Identity) (addrs : List ℕ) (rounds : ℕ) (steps : List WriterStep) (n place : ℕ) (p q : PassState) (xs : List (ℕ × Answer))
-    → Makes ((MeetWriter n, place) ∷ []) p q → q.table ≡ id → q.seen ≡ steps → IsHistory q → AreTold (initial_state id) p xs
+    → Makes ((MeetWriter n, place) ∷ []) p q → q.table ≡ id → q.writer_steps ≡ steps → IsHistory q → AreTold (initial_state id) p xs
     → map (λ x. x.0) xs ≡ times rounds addrs → (xs ≡ answers_by q) × HasLookedUp id addrs rounds steps q
 looked_up id addrs rounds steps n place p q xs made own all history told whole =
     let after : AreTold (initial_state id) q xs =
-    told_on (initial_state id) p q xs (kept_by_one (MeetWriter n) place p q (λ now r. refl) made) made.seen told in (
+    told_on (initial_state id) p q xs (kept_by_one (MeetWriter n) place p q (λ now r. refl) made) made.writer_steps told in (
       after.0,
       record {
         table = own;
-        seen = all;
+        writer_steps = all;
         within = subst (λ (l : List WriterStep). All (λ step. step.1 ≤ length l) q.steps) all history.within;
         rising = history.rising;
         placed = subst (λ (z : Identity × List WriterStep). ArePlaced (initial_state z.0) z.1 q.steps) (λ i. (own i, all i)) history.placed;

@@ -43,7 +43,7 @@ IsOfAStandingVersion c w_steps seen = (k : ℕ) × IsOfVersion c w_steps seen k
 -- by the steps of the writer that the pass has seen
 pub record HoldsItsAnswers (id : Identity) (w : Worker) : Type 0 where
   pub answers : w.answers.items ≡ answers_by w.pass
-  pub versions : All (IsOfAStandingVersion (initial_state id) w.pass.seen) (lookups_of w.pass)
+  pub versions : All (IsOfAStandingVersion (initial_state id) w.pass.writer_steps) (lookups_of w.pass)
 
 -- the number of the worker whose pass it has
 abbrev pub number_of : Worker → ℕ
@@ -87,7 +87,7 @@ pub record IsOver (id : Identity) (addrs : List ℕ) (rounds : ℕ) (w : Worker)
 pub record HasLookedUp (id : Identity) (addrs : List ℕ) (rounds : ℕ) (w_steps : List WriterStep)
     (p : PassState) : Type 0 where
   pub table : p.table ≡ id
-  pub seen : p.seen ≡ w_steps
+  pub writer_steps : p.writer_steps ≡ w_steps
   pub within : All (λ step. step.1 ≤ length w_steps) p.steps
   pub rising : AllPairs (λ later earlier. earlier.1 ≤ later.1) p.steps
   pub placed : ArePlaced (initial_state id) w_steps p.steps

@@ -21,7 +21,7 @@ loop-i-preserved g c =
     let addrs = c.args.addrs.now in
     let hops = c.loop-i.hops.items in
     let known = c.loop-i.invariant in
-    let first = c.online.new.self.seen in
+    let first = c.online.new.self.writer_steps in
     let before = c.loop-i.pass in
     let after = c.lookup.new.self in
     let answer = c.lookup.result in
@@ -33,7 +33,7 @@ loop-i-preserved g c =
       own = c.lookup.ensures.own ∙ known.own;
       worker = looks.steps.worker ∙ known.worker;
       online = c.lookup.ensures.online;
-      later = later_trans first before.seen after.seen known.later looks.steps.seen;
+      later = later_trans first before.writer_steps after.writer_steps known.later looks.steps.writer_steps;
       room = known.room;
       answered = rw (take_more addrs i 0 (omega arith), take_more_set hops i answer.hop fits) more;
     }
@@ -46,6 +46,6 @@ returns g c =
     let leaves = c.offline.ensures in
     let all = take_all c.loop-i.i addrs (omega arith) in
     let each = take_all c.loop-i.i hops (omega arith) in
-    let answers = subst (λ (z : List ℕ × List (Option ℕ)). AnswersAtRest c.args.table.now z.0 z.1 c.online.new.self.seen c.loop-i.pass.seen) (λ i. (all i, each i)) known.answered in
+    let answers = subst (λ (z : List ℕ × List (Option ℕ)). AnswersAtRest c.args.table.now z.0 z.1 c.online.new.self.writer_steps c.loop-i.pass.writer_steps) (λ i. (all i, each i)) known.answered in
     has_answered c.args.table.now addrs c.args.desk.now _ c.online.new.self c.loop-i.pass _ _
     c.requires.desk.table leaves.offline c.online.ensures.steps.3 known.own known.worker known.later leaves.steps.1 answers

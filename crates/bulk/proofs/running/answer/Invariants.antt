@@ -10,7 +10,7 @@ invariant-loop-i g l = record {
   own : l.pass.table ≡ l.table;
   worker : l.pass.worker ≡ l.initial.pass.worker;
   online : l.pass.online ≡ true;
-  later : IsLater l.initial.pass.seen l.pass.seen;
+  later : IsLater l.initial.pass.writer_steps l.pass.writer_steps;
   room : vec_len l.hops ≡ length l.addrs;
-  answered : AnswersAtRest l.table (take l.i l.addrs) (take l.i l.hops.items) l.initial.pass.seen l.pass.seen;
+  answered : AnswersAtRest l.table (take l.i l.addrs) (take l.i l.hops.items) l.initial.pass.writer_steps l.pass.writer_steps;
 }

@@ -11,7 +11,7 @@ returns g c =
     let m = c.new-memory in
     let ran = c.start_synchronize-came in
     let came = on_ok_then ran.result ran.ensures.starts (λ starts.
-    starts (initial_state_of v.initial) v.seen m.ensures.did c.requires.ready.rests) in
+    starts (initial_state_of v.initial) v.writer_steps m.ensures.did c.requires.ready.rests) in
     let name : ran.new.memory.name ≡ m.result.name = either ran.result came ran.ensures.unchanged (λ h. h.2.0.name)
     (ap (λ (l : LentSeat). l.name)) in
     let knows : ran.new.memory.view ≡ c.seat-1.given.0.view = search (rules, c.seat-1, name, m.ensures, c.done.ensures) in

@@ -22,7 +22,7 @@ check_synchronize-requires g c =
     let m : LentSeat = c.args.memory.now in
     let y : LentSeat = c.loop.memory in
     let so_far = c.loop.invariant in
-    (omega arith, (initial_state_of m.view.initial, y.view.seen, so_far.waited.did, so_far.waits))
+    (omega arith, (initial_state_of m.view.initial, y.view.writer_steps, so_far.waited.did, so_far.waits))
 
 pub loop-preserved : goal.loop-preserved
 loop-preserved g c =
@@ -47,7 +47,7 @@ returns-in-Ok g c =
     let z : LentSeat = c.check_synchronize.new.memory in
     let initial : InitialState = initial_state_of m.view.initial in
     let so_far = c.loop.invariant in
-    let now = c.in-Ok.ensures.checks initial y.view.seen so_far.waited.did so_far.waits in
+    let now = c.in-Ok.ensures.checks initial y.view.writer_steps so_far.waited.did so_far.waits in
     let all : kept z ≡ kept m = still m y z so_far.waited now.0 now.1 (Ok tt) now.2 in
     let Rests : InitialState → List WriterStep → Type 0 = λ by later.
     IsResting f s by later new.config new.rules new.pool new.versions in
@@ -58,7 +58,7 @@ returns-in-Ok g c =
     ◌∙◌ {b = passed c.loop.control} c.in-Ok.ensures.same (ap passed so_far.control) in
     record {
       passes = at_last m y z so_far.waited now.0 now.1 now.2;
-      queued = λ some. queued_passed f s (initial_state_of z.view.initial) z.view.seen new.config new.rules
+      queued = λ some. queued_passed f s (initial_state_of z.view.initial) z.view.writer_steps new.config new.rules
           new.pool new.versions rests c.in-Ok.ensures.queued
           (subst (λ (l : ControlState f s). 0 < l.config.workers) (sym is) some);
       rests = rests;

@@ -8,6 +8,6 @@ abbrev pub invariant-loop : goal.invariant-loop
 invariant-loop g l = record {
   control : l.control ≡ l.fn.control;
   waited : HasWaited l.fn.memory l.memory;
-  waits : IsWaiting g.row.FIRST g.row.SECOND (initial_state_of l.fn.memory.view.initial) l.memory.view.seen
+  waits : IsWaiting g.row.FIRST g.row.SECOND (initial_state_of l.fn.memory.view.initial) l.memory.view.writer_steps
       l.control.config l.control.rules l.control.pool l.control.versions;
 }

@@ -14,7 +14,7 @@ returns-clause-started g c =
     let w : View = c.seat-1.given.0.view in
     let sees : OnlySees v w = search rules in
     let checked = looked v w sees c.history.ensures.checked in
-    let came : OnOk c.synchronize_over-came.result (Synchronizes v.initial.workers v.initial.token v.seen w.seen) = search rules in
+    let came : OnOk c.synchronize_over-came.result (Synchronizes v.initial.workers v.initial.token v.writer_steps w.writer_steps) = search rules in
     on_ok_weaker c.synchronize_over-came.result (λ h. (synchronize_checked v w sees h checked).started) came
 
 pub returns-clause-checked : goal.returns-clause-checked
@@ -23,13 +23,13 @@ returns-clause-checked g c =
     let w : View = c.seat-1.given.0.view in
     let sees : OnlySees v w = search rules in
     let checked = looked v w sees c.history.ensures.checked in
-    let came : OnOk c.synchronize_over-came.result (Synchronizes v.initial.workers v.initial.token v.seen w.seen) = search rules in
+    let came : OnOk c.synchronize_over-came.result (Synchronizes v.initial.workers v.initial.token v.writer_steps w.writer_steps) = search rules in
     on_ok_weaker c.synchronize_over-came.result (λ h. (synchronize_checked v w sees h checked).checked) came
 
 pub returns-clause-later : goal.returns-clause-later
 returns-clause-later g c =
     let v : View = c.args.seat.now.view in
     let w : View = c.seat-1.given.0.view in
-    let came : OnOk c.synchronize_over-came.result (Synchronizes v.initial.workers v.initial.token v.seen w.seen) = search rules in
+    let came : OnOk c.synchronize_over-came.result (Synchronizes v.initial.workers v.initial.token v.writer_steps w.writer_steps) = search rules in
     let untouched : OnErr c.synchronize_over-came.result (w ≡ v) = search rules in
     synchronized_later v.initial.workers v.initial.token v w c.synchronize_over-came.result untouched came

@@ -17,7 +17,7 @@ loop-round-preserved g c =
     let after = c.quiescent.new.self in
     let steps = c.quiescent.ensures.steps in
     let same = kept_by_two (LoadQuiescent steps.0) (StoreQuiescent steps.0) steps.1 steps.2 before after (λ now r. refl) (λ now r. refl) steps.3 in
-    let told = told_on (initial_state id) before after made.answers.items same steps.3.seen
+    let told = told_on (initial_state id) before after made.answers.items same steps.3.writer_steps
     (c.look_once.ensures.told.answers, c.look_once.ensures.told.versions) in
     record {
       own = c.quiescent.ensures.own ∙ c.look_once.ensures.own ∙ was.own;

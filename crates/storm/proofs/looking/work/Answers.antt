@@ -11,7 +11,7 @@ returns g c =
     let after = c.offline.new.self in
     let steps = c.offline.ensures.steps in
     let same = kept_by_one StoreOffline steps.0 made.pass after (λ now r. refl) steps.1 in
-    let told = told_on (initial_state id) made.pass after made.answers.items same steps.1.seen
+    let told = told_on (initial_state id) made.pass after made.answers.items same steps.1.writer_steps
     (c.look_rounds.ensures.told.answers, c.look_rounds.ensures.told.versions) in
     record {
       over = record {

@@ -11,7 +11,7 @@ first-requires-clause-index g c =
     omega (
       arith,
       c.requires,
-      firsts_length (initial_state_of v.initial) v.seen,
+      firsts_length (initial_state_of v.initial) v.writer_steps,
       ap (λ (o : InitialData). length o.firsts) own.initial_is,
       ap (λ (m : LentSeat). length (state_of_lent m).words.firsts) c.self.view_is,
       own.firsts,

@@ -11,7 +11,7 @@ second-requires-clause-index g c =
     omega (
       arith,
       c.requires,
-      seconds_length (initial_state_of v.initial) v.seen,
+      seconds_length (initial_state_of v.initial) v.writer_steps,
       ap (λ (o : InitialData). length o.seconds) own.initial_is,
       ap (λ (m : LentSeat). length (state_of_lent m).words.seconds) c.self.view_is,
       own.seconds,

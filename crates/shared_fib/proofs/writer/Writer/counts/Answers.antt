@@ -12,7 +12,7 @@ returns-clause-in_use g c =
     let l = c.self.inside.control in
     let v = c.self.inside.seat.view in
     c.counts.ensures.in_use
-    ∙ linked_resting f s (initial_state_of v.initial) v.seen l.config l.rules l.pool l.versions c.self.invariant.rests
+    ∙ linked_resting f s (initial_state_of v.initial) v.writer_steps l.config l.rules l.pool l.versions c.self.invariant.rests
     ∙ ap (λ (y : WriterState). groups_in_use f s y.table.rules) c.self.view_is
 
 pub returns-clause-all : goal.returns-clause-all

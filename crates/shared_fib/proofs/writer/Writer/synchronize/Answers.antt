@@ -12,4 +12,4 @@ returns-clause-queued g c =
 
 pub returns-clause-later : goal.returns-clause-later
 returns-clause-later g c =
-    subst (λ (y : WriterState). IsLater (steps_of y) c.synchronize_by.new.seat.view.seen) c.self.view_is c.synchronize_by.ensures.later
+    subst (λ (y : WriterState). IsLater (steps_of y) c.synchronize_by.new.seat.view.writer_steps) c.self.view_is c.synchronize_by.ensures.later

@@ -10,5 +10,5 @@ load-requires g c =
       own.same,
       omega (arith, own.words),
       ends_allowed _ _ _ _ _ _ c.self.invariant.role refl (phase_inside c.self.view_is c.requires.looking)
-          (subst (λ (s : WorkerAt). AreAnswered (worker_by s.view.own).probes) (sym c.self.view_is) c.requires.answered),
+          (subst (λ (s : WorkerAt). AreAnswered (worker_by s.view.own_steps).probes) (sym c.self.view_is) c.requires.answered),
     )

@@ -20,12 +20,12 @@ pub load-requires : goal.load-requires
 load-requires g c =
     let own = own_inside c.table.view_is c.self.view_is c.requires.own in
     let heard = c.join_seat.ensures.2 in
-    let between = subst (λ (s : WorkerAt). IsBetweenDeeds (worker_by s.view.own).phase) (sym c.self.view_is) c.requires.between in (
+    let between = subst (λ (s : WorkerAt). IsBetweenDeeds (worker_by s.view.own_steps).phase) (sym c.self.view_is) c.requires.between in (
       search rules,
       omega (arith, own.words),
       meets_allowed _ _ _ _ _ _ (ap {A = Me (Unit {0}) View} (λ m. m.0.role) heard ∙ c.self.invariant.role)
           refl
-          (subst (λ (m : Me (Unit {0}) View). IsBetweenDeeds (worker_by m.0.own).phase)
+          (subst (λ (m : Me (Unit {0}) View). IsBetweenDeeds (worker_by m.0.own_steps).phase)
           (sym heard) between),
     )
 
