@@ -108,16 +108,16 @@ pub record IsOldest (w : TableState) (token : ℕ) : Type 0 where
   pub before : IsUpdating w → token < w.token
 
 -- the worker that a check of the token asks next
-abbrev pub next_asked : TableState → ℕ → ℕ
-next_asked w token = cond (eqb w.scan.token token) w.scan.next 0
+abbrev pub next_loaded : TableState → ℕ → ℕ
+next_loaded w token = cond (eqb w.scan.token token) w.scan.next 0
 
 -- a check goes on; or the check of the oldest token begins, between updates or in one after an
 -- unlinking
-abbrev pub IsAsked : TableState → WriterProgress → ℕ → ℕ → NextStep → Type 0
-IsAsked w progress token worker Nothing =
+abbrev pub IsLoadDue : TableState → WriterProgress → ℕ → ℕ → NextStep → Type 0
+IsLoadDue w progress token worker Nothing =
     (worker ≡ 0) × IsOldest w token × (IsUpdating w → progress.reclaims ≡ true)
-IsAsked w progress token worker Bump = ⊥
-IsAsked w progress token worker (Check due) = (token ≡ due) × (worker ≡ next_asked w token)
+IsLoadDue w progress token worker Bump = ⊥
+IsLoadDue w progress token worker (Check due) = (token ≡ due) × (worker ≡ next_loaded w token)
 
 -- the token is bumped directly after an unlinking store; else by a synchronize, which comes between
 -- updates
@@ -136,4 +136,4 @@ Follows c w progress (StoreSecond j x) =
 Follows c w progress (BeginUpdate change) = progress.next_step ≡ Nothing
 Follows c w progress EndUpdate = (progress.next_step ≡ Nothing) × HasLinkedOwn w progress.taken
 Follows c w progress BumpToken = IsBumped w progress.next_step
-Follows c w progress (LoadCounter token worker counter) = IsAsked w progress token worker progress.next_step
+Follows c w progress (LoadCounter token worker counter) = IsLoadDue w progress token worker progress.next_step

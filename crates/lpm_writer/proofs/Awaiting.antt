@@ -10,11 +10,11 @@ use Rattle.lpm_rules.specs.RuleMap.{RuleList}
 use Rattle.lpm_trace.specs.declared.step.WriterStep.{WriterStep}
 use Rattle.lpm_trace.specs.declared.step.WriterStep.TheVariants.{BumpToken, LoadCounter}
 use Rattle.lpm_trace.specs.States.{InitialState, TableState, Status, state_after, lets_pass}
-use Rattle.lpm_trace.specs.Progress.{WriterProgress, Check, progress_after_bump, IsAsked, IsBumped as MayBump}
+use Rattle.lpm_trace.specs.Progress.{WriterProgress, Check, progress_after_bump, IsLoadDue, IsBumped as MayBump}
 use Rattle.lpm_trace.specs.Writer.{progress_after, IsWritten, MayStep}
 use Rattle.lpm_writer.specs.declared.pool.GroupPool.{GroupPool}
 use Rattle.lpm_writer.specs.Traced.{Checks}
-use Rattle.lpm_writer.specs.Matching.{AreRetired, HasNothingDue, MayAsk, Remembers}
+use Rattle.lpm_writer.specs.Matching.{AreRetired, HasNothingDue, MayLoadCounters, Remembers}
 use Rattle.lpm_writer.specs.Resting.{IsBetween, IsResting}
 use Rattle.lpm_writer.specs.Commands.{IsAwaited, IsWaiting}
 use Rattle.lpm_writer.proofs.Checks.{HasPassed, quiet_on, check_passes, check_stops}
@@ -80,9 +80,9 @@ module _ (f s : ℕ) (c : InitialState) (config : Config) (rules : RuleList) (po
 
   module _ (steps : List WriterStep) (wait : IsWaiting f s c steps config rules pool begun) where
     -- its check may begin
-    pub asks_awaited : MayAsk c steps (state_after c steps).token
+    pub asks_awaited : MayLoadCounters c steps (state_after c steps).token
     asks_awaited some counter =
-        ((refl, some, omega arith, inl refl), subst (λ d. IsAsked (state_after c steps) (progress_after c steps) (state_after c steps).token 0 d) (sym (wait.due.next_step some)) (refl, sym wait.due.next))
+        ((refl, some, omega arith, inl refl), subst (λ d. IsLoadDue (state_after c steps) (progress_after c steps) (state_after c steps).token 0 d) (sym (wait.due.next_step some)) (refl, sym wait.due.next))
 
     pub remembers_awaited : Remembers c steps pool.passed
     remembers_awaited some = wait.rested.keeps.remembers some ∙ sym wait.passed

@@ -4,10 +4,10 @@ use Rattle.std.proofs.lemmas.Bool.Decides.{eqb_tells, leb_tells}
 use Rattle.lpm_trace.specs.declared.step.WriterStep.{WriterStep}
 use Rattle.lpm_trace.specs.declared.step.WriterStep.TheVariants.{LoadCounter}
 use Rattle.lpm_trace.specs.States.{InitialState, TableState, state_after, lets_pass}
-use Rattle.lpm_trace.specs.Progress.{WriterProgress, Check, IsAsked, progress_after_pass, progress_after_stop, progress_after_load, Nothing}
+use Rattle.lpm_trace.specs.Progress.{WriterProgress, Check, IsLoadDue, progress_after_pass, progress_after_stop, progress_after_load, Nothing}
 use Rattle.lpm_trace.specs.Writer.{progress_after, MayStep}
-use Rattle.lpm_writer.specs.Traced.{Loads, WithSteps, Goes, Asks, Checks}
-use Rattle.lpm_writer.specs.Matching.{MayAsk, SameTables, HasNothingDue}
+use Rattle.lpm_writer.specs.Traced.{Loads, WithSteps, Goes, LoadsCounters, Checks}
+use Rattle.lpm_writer.specs.Matching.{MayLoadCounters, SameTables, HasNothingDue}
 use Rattle.std.specs.Prelude.{◌&&◌, Result, Ok, Err, Some}
 use Rattle.lpm_limits.specs.declared.busy.Busy.{Busy}
 
@@ -30,7 +30,7 @@ next_ask c steps t k v may pass more v' =
     let next_step : x'.next_step ≡ Check t = ap (λ (x : WriterProgress). x.next_step) (go_on c (progress_after c steps) t k v pass more) in
     let next : cond (lets_pass t v) (suc k) 0 ≡ suc k = ap (λ b. cond b (suc k) 0) pass in (
       (refl, more, may.0.2, inr (next, refl)),
-      subst (λ d. IsAsked w' x' t (suc k) d) (sym next_step) (refl, sym (ap (λ b. cond b (cond (lets_pass t v) (suc k) 0) 0) (eq-eqb t t refl) ∙ next)),
+      subst (λ d. IsLoadDue w' x' t (suc k) d) (sym next_step) (refl, sym (ap (λ b. cond b (cond (lets_pass t v) (suc k) 0) 0) (eq-eqb t t refl) ∙ next)),
     )
 
 pub passes_by : (t v : ℕ) → (v ≡ 0) ⊎ (t ≤ v) → lets_pass t v ≡ true
@@ -58,18 +58,18 @@ stops_by t v some lt = elim (eqb_tells v 0) [
 -- ---- how far a check has come
 
 -- the counters of the workers below k were loaded, and the next one may be
-abbrev pub HasAsked : {M : Type 0} → (M → InitialState → List WriterStep → Type 0) → (M → WriterStep → M → Type 0) → M → ℕ → ℕ → M → Type 0
-HasAsked did does m token k z = (c : InitialState) (steps : List WriterStep) → did m c steps → MayAsk c steps token
+abbrev pub HasLoadedCounters : {M : Type 0} → (M → InitialState → List WriterStep → Type 0) → (M → WriterStep → M → Type 0) → M → ℕ → ℕ → M → Type 0
+HasLoadedCounters did does m token k z = (c : InitialState) (steps : List WriterStep) → did m c steps → MayLoadCounters c steps token
     → (later : List WriterStep) × did z c later × Loads does k (m, steps) token (z, later)
     × (k < c.workers → (counter : ℕ) → MayStep c later (LoadCounter token k counter))
 
 module _ {M : Type 0} (did : M → InitialState → List WriterStep → Type 0) (does : M → WriterStep → M → Type 0)
     (follows : (m : M) (s : WriterStep) (z : M) (c : InitialState) (steps : List WriterStep) → does m s z → did m c steps → MayStep c steps s → did z c (s ∷ steps)) where
-  pub asked_none : (m : M) (token : ℕ) → HasAsked did does m token 0 m
+  pub asked_none : (m : M) (token : ℕ) → HasLoadedCounters did does m token 0 m
   asked_none m token c steps d may = (steps, d, refl, may)
 
-  pub asked_more : (m : M) (token k : ℕ) (y : M) (counter : ℕ) (z : M) → HasAsked did does m token k y → does y (LoadCounter token k counter) z
-      → lets_pass token counter ≡ true → (((c : InitialState) (steps : List WriterStep) → did m c steps → k < c.workers)) → HasAsked did does m token (k + 1) z
+  pub asked_more : (m : M) (token k : ℕ) (y : M) (counter : ℕ) (z : M) → HasLoadedCounters did does m token k y → does y (LoadCounter token k counter) z
+      → lets_pass token counter ≡ true → (((c : InitialState) (steps : List WriterStep) → did m c steps → k < c.workers)) → HasLoadedCounters did does m token (k + 1) z
   asked_more m token k y counter z asked loads pass below c steps d may =
       let so_far = asked c steps d may in
       let may_load = so_far.3 (below c steps d) counter in (
@@ -212,7 +212,7 @@ module _ {M : Type 0} (does : M → WriterStep → M → Type 0) (c : InitialSta
   })
   check_passes x t z (inr h) = all_passed c.workers x t z refl h.1
 
-  stopped : (x : WithSteps M) (t : ℕ) (busy : Busy) (z : WithSteps M) → Asks does c.workers x t (Err busy) z → HasStopped c x.1 z.1
+  stopped : (x : WithSteps M) (t : ℕ) (busy : Busy) (z : WithSteps M) → LoadsCounters does c.workers x t (Err busy) z → HasStopped c x.1 z.1
   stopped x t busy z h =
       let y = h.0 in
       let before = loaded does c busy.worker x t y h.2 h.1 in
@@ -251,5 +251,5 @@ module _ {M : Type 0} (does : M → WriterStep → M → Type 0) (c : InitialSta
           omega (arith, end.0, old)
 
   -- a worker stopped the check: no greater token has passed
-  pub asked_busy : (x : WithSteps M) (t : ℕ) (busy : Busy) (z : WithSteps M) → Asks does c.workers x t (Err busy) z → (state_after c z.1).passed ≡ (state_after c x.1).passed
+  pub asked_busy : (x : WithSteps M) (t : ℕ) (busy : Busy) (z : WithSteps M) → LoadsCounters does c.workers x t (Err busy) z → (state_after c z.1).passed ≡ (state_after c x.1).passed
   asked_busy x t busy z h = (stopped x t busy z h).passed

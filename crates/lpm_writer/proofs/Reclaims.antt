@@ -5,12 +5,12 @@ use Rattle.lpm_groups.specs.declared.GroupState.TheVariants.{Limbo, Free, Linked
 use Rattle.lpm_trace.specs.declared.step.WriterStep.{WriterStep}
 use Rattle.lpm_trace.specs.declared.step.WriterStep.TheVariants.{BumpToken}
 use Rattle.lpm_trace.specs.States.{InitialState, state_after, TableState, Status, Unused, Linked, Retired, IsFree, IsUpdating}
-use Rattle.lpm_trace.specs.Progress.{WriterProgress, Nothing, progress_after_bump, IsBumped as MayBump, IsOldest, IsAsked}
+use Rattle.lpm_trace.specs.Progress.{WriterProgress, Nothing, progress_after_bump, IsBumped as MayBump, IsOldest, IsLoadDue}
 use Rattle.lpm_trace.specs.Writer.{progress_after, MayStep}
 use Rattle.lpm_writer.specs.declared.pool.GroupPool.{GroupPool}
 use Rattle.lpm_writer.specs.Waiting.{AreWaiting, tokens_of}
 use Rattle.lpm_writer.specs.Commands.{ChecksBy, MayFree}
-use Rattle.lpm_writer.specs.Matching.{HasUnlinked, HasRetired, OnlyChecks, GroupsMatchSteps, MayReclaim, AreAfter, AreRetired, AreBelow, IsAmong, GroupsMatchState, IsLimbo, MayAsk, Remembers}
+use Rattle.lpm_writer.specs.Matching.{HasUnlinked, HasRetired, OnlyChecks, GroupsMatchSteps, MayReclaim, AreAfter, AreRetired, AreBelow, IsAmong, GroupsMatchState, IsLimbo, MayLoadCounters, Remembers}
 use Rattle.lpm_writer.proofs.LimboItems.{free_linked, freed_states, waiting_set}
 use Rattle.lpm_writer.proofs.Checks.{quiet_on, HasPassed, HasStopped, quiet_same, check_passes, check_stops}
 use Rattle.std.proofs.lemmas.Bool.{cases_eq}
@@ -107,7 +107,7 @@ after_among t g u (item ∷ items) h (inr at) = after_among t g u items h.1 at
 
 -- the oldest item's check may begin
 pub may_ask : (c : InitialState) (steps : List WriterStep) (states : List GroupState) (g t : ℕ) (rest tail : List (ℕ × ℕ)) (passed : ℕ) (held : Option ℕ)
-    → GroupsMatchSteps c steps states ((g, t) ∷ rest ++ tail) passed held → MayReclaim c steps ((g, t) ∷ rest) → passed < t → MayAsk c steps t
+    → GroupsMatchSteps c steps states ((g, t) ∷ rest ++ tail) passed held → MayReclaim c steps ((g, t) ∷ rest) → passed < t → MayLoadCounters c steps t
 may_ask c steps states g t rest tail passed held k may more some counter =
     let w : TableState = state_after c steps in
     let known = k.remembers some in
@@ -121,7 +121,7 @@ may_ask c steps states g t rest tail passed held k may more some counter =
       ];
       before = λ up. (may.before up).0;
     } in
-    ((refl, some, k.kept.retired.1, inl refl), subst (λ d. IsAsked w (progress_after c steps) t 0 d) (sym may.idle.next_step) (refl, oldest, may.updating))
+    ((refl, some, k.kept.retired.1, inl refl), subst (λ d. IsLoadDue w (progress_after c steps) t 0 d) (sym may.idle.next_step) (refl, oldest, may.updating))
   where
     first : (other u : ℕ) → IsAmong other u ((g, t) ∷ rest ++ tail) → t ≤ u
     first other u (inl e) = subst (λ x. t ≤ x) (sym e.1) (omega arith)
@@ -245,7 +245,7 @@ module _ {M : Type 0} (did : M → InitialState → List WriterStep → Type 0) 
     module _ (n : ℕ) (m : M) (states : List GroupState) (items : List (ℕ × ℕ)) (passed : ℕ) (freed : HasFreed n m states items passed)
         (g t : ℕ) (rest : List (ℕ × ℕ)) (front : items ≡ (g, t) ∷ rest) where
       pub may_check : (c : InitialState) (steps : List WriterStep) (tail : List (ℕ × ℕ)) (held : Option ℕ) (d : did first c steps)
-          (k : GroupsMatchSteps c steps states0 (items0 ++ tail) passed0 held) (may : MayReclaim c steps items0) → passed < t → MayAsk c (freed c steps tail held d k may).0 t
+          (k : GroupsMatchSteps c steps states0 (items0 ++ tail) passed0 held) (may : MayReclaim c steps items0) → passed < t → MayLoadCounters c (freed c steps tail held d k may).0 t
       may_check c steps tail held d k may =
           let now = freed c steps tail held d k may in
           may_ask c now.0 states g t rest tail passed held (subst (λ xs. GroupsMatchSteps c now.0 states (xs ++ tail) passed held) front now.3) (subst (MayReclaim c now.0) front now.4)

@@ -77,8 +77,8 @@ pub record MayReclaim (c : InitialState) (steps : List WriterStep) (items : List
   pub before : IsUpdating (state_after c steps) → AreBelow (state_after c steps).token items
 
 -- the workers may be asked for the token, the first of them first
-abbrev pub MayAsk : InitialState → List WriterStep → ℕ → Type 0
-MayAsk c steps token = 0 < c.workers → (counter : ℕ) → MayStep c steps (LoadCounter token 0 counter)
+abbrev pub MayLoadCounters : InitialState → List WriterStep → ℕ → Type 0
+MayLoadCounters c steps token = 0 < c.workers → (counter : ℕ) → MayStep c steps (LoadCounter token 0 counter)
 
 -- the writer remembers the greatest token that has passed; without workers each passes
 abbrev pub Remembers : InitialState → List WriterStep → ℕ → Type 0

@@ -19,9 +19,9 @@ Loads (suc n) x token z = (y : List WriterStep) × (counter : ℕ) × Loads n x 
 
 -- the workers were asked one after another: all let the token pass, or the first that didn't stopped
 -- the check
-abbrev pub Asks : ℕ → List WriterStep → ℕ → Result (Unit {0}) Busy → List WriterStep → Type 0
-Asks workers x token (Ok passed) z = Loads workers x token z
-Asks workers x token (Err busy) z = (y : List WriterStep) × Loads busy.worker x token y
+abbrev pub LoadsCounters : ℕ → List WriterStep → ℕ → Result (Unit {0}) Busy → List WriterStep → Type 0
+LoadsCounters workers x token (Ok passed) z = Loads workers x token z
+LoadsCounters workers x token (Err busy) z = (y : List WriterStep) × Loads busy.worker x token y
     × (busy.worker < workers) × (0 < busy.counter) × (busy.counter < token)
     × (z ≡ LoadCounter token busy.worker busy.counter ∷ y)
 
@@ -30,7 +30,7 @@ Asks workers x token (Err busy) z = (y : List WriterStep) × Loads busy.worker x
 abbrev pub Checks : ℕ → List WriterStep → ℕ → Result (Unit {0}) Busy → List WriterStep → Type 0
 Checks workers x token result z =
     ((token ≤ passed_after workers x) × (result ≡ Ok tt) × (z ≡ x))
-    ⊎ ((0 < workers → passed_after workers x < token) × Asks workers x token result z)
+    ⊎ ((0 < workers → passed_after workers x < token) × LoadsCounters workers x token result z)
 
 -- the step stores a word
 abbrev pub IsStore : WriterStep → Type 0

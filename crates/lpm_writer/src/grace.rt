@@ -5,7 +5,7 @@ ghost use Rattle.std.specs.Prelude.{◌≡◌, ◌<◌, ◌≤◌, List, OnOk, O
 ghost use Rattle.lpm_trace.specs.declared.step.WriterStep.{WriterStep};
 ghost use Rattle.lpm_trace.specs.States.{InitialState};
 ghost use Rattle.lpm_writer.specs.Commands.{ChecksBy};
-ghost use Rattle.lpm_writer.specs.Matching.{MayAsk};
+ghost use Rattle.lpm_writer.specs.Matching.{MayLoadCounters};
 
 use crate::Memory;
 use defer_queue::Grace;
@@ -65,7 +65,7 @@ pub(crate) fn check_token<M: Memory>(
     token: u64,
 ) -> Result<(), Busy>
     requires may { (c : InitialState) × (steps : List WriterStep)
-        × M.did memory.old c steps × (passed.old < token → MayAsk c steps token) }
+        × M.did memory.old c steps × (passed.old < token → MayLoadCounters c steps token) }
     ensures checks { ChecksBy M.did M.does memory.old passed.old token result memory.new passed.new }
     ensures passed { OnOk result (token ≤ passed.new) }
     ensures stopped { OnErr result (passed.new ≡ passed.old) }

@@ -3,7 +3,7 @@ use Rattle.std.proofs.lemmas.Bool.{cases_lt}
 use Rattle.lpm_trace.specs.declared.step.WriterStep.TheVariants.{LoadCounter}
 use Rattle.std.specs.Prelude.{Err}
 use Rattle.lpm_limits.specs.declared.busy.Busy.{Busy}
-use Rattle.lpm_writer.specs.Traced.{Asks, Loads}
+use Rattle.lpm_writer.specs.Traced.{LoadsCounters, Loads}
 use Rattle.lpm_writer.proofs.Checks.{asked_none, asked_more, asked_all, asked_busy, passes_by}
 use Rattle.lpm_writer.proofs.grace.check_token.Goals as goal
 
@@ -38,7 +38,7 @@ returns-then-holds-clause-checks g c = λ s steps did known may.
     let next = LoadCounter c.args.token c.loop-worker.worker c.load_counter-counter.result in
     let later = next ∷ so_far.0 in
     let busy : Busy = record { worker = c.loop-worker.worker; counter = c.load_counter-counter.result } in
-    let asked : Asks g.M.Memory.does s.workers (c.args.memory.now, steps) c.args.token (Err busy) (c.load_counter-counter.new.self, later) = ((c.loop-worker.memory, so_far.0), so_far.2, below, held.0, held.1, (does, refl)) in (
+    let asked : LoadsCounters g.M.Memory.does s.workers (c.args.memory.now, steps) c.args.token (Err busy) (c.load_counter-counter.new.self, later) = ((c.loop-worker.memory, so_far.0), so_far.2, below, held.0, held.1, (does, refl)) in (
       later,
       g.met.M.Memory.follows c.loop-worker.memory next c.load_counter-counter.new.self s so_far.0 does so_far.1 (so_far.3 below c.load_counter-counter.result),
       inr ((λ some. let k = known some in omega (arith, k, more)), asked),

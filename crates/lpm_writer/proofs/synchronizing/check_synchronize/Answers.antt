@@ -1,7 +1,7 @@
 use Rattle.std.proofs.Common.{◌≤◌, sym, subst, ◌∙◌}
 use Rattle.std.proofs.lemmas.Result.{on_ok_weaker}
 use Rattle.lpm_writer.specs.Traced.{Checks}
-use Rattle.lpm_writer.specs.Matching.{MayAsk}
+use Rattle.lpm_writer.specs.Matching.{MayLoadCounters}
 use Rattle.lpm_writer.proofs.Awaiting.{asks_awaited, remembers_awaited, queued_passed, checked}
 use Rattle.lpm_writer.proofs.synchronizing.check_synchronize.Goals as goal
 
@@ -10,7 +10,7 @@ check_token-requires g c =
     let l = c.args.control.now in
     let r = c.requires.waits in
     let newest = c.token-token.ensures.value ∙ (g.met.M.Memory.shows c.args.memory.now r.0 r.1 r.2).1 in
-    record { may = (r.0, r.1, r.2, λ _. subst (MayAsk r.0 r.1) (sym newest) (asks_awaited g.row.FIRST g.row.SECOND r.0 l.config l.rules l.pool l.versions r.1 r.3)) }
+    record { may = (r.0, r.1, r.2, λ _. subst (MayLoadCounters r.0 r.1) (sym newest) (asks_awaited g.row.FIRST g.row.SECOND r.0 l.config l.rules l.pool l.versions r.1 r.3)) }
 
 pub returns-clause-checks : goal.returns-clause-checks
 returns-clause-checks g c = λ initial steps did wait.
@@ -23,7 +23,7 @@ returns-clause-checks g c = λ initial steps did wait.
     let r = c.check_token.result in
     let value = c.token-token.ensures.value in
     let newest = value ∙ (g.met.M.Memory.shows m initial steps did).1 in
-    let may = subst (MayAsk initial steps) (sym newest) (asks_awaited f s initial l.config l.rules l.pool l.versions steps wait) in
+    let may = subst (MayLoadCounters initial steps) (sym newest) (asks_awaited f s initial l.config l.rules l.pool l.versions steps wait) in
     let done = c.check_token.ensures.checks initial steps did (remembers_awaited f s initial l.config l.rules l.pool l.versions steps wait) (λ _. may) in
     let then = checked f s initial l.config l.rules l.pool l.versions steps wait does m z done.0 r c.check_token.new.passed (subst (λ t. Checks does initial (m, steps) t r (z, done.0)) newest done.2) done.3 c.check_token.ensures.stopped in
     (done.0, done.1, subst (λ t. Checks does initial (m, steps) t r (z, done.0)) value done.2, then.0, then.1)
