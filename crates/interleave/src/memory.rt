@@ -68,7 +68,7 @@ impl<'a, const FIRST: u32, const SECOND: u32> Memory for WorldMemory<'a, FIRST, 
 
     ghost second_stored = { λ m i w z sets. sets };
 
-    fn workers(&self) -> usize {
+    fn counters(&self) -> usize {
         self.scripts.len()
     }
 
@@ -76,13 +76,13 @@ impl<'a, const FIRST: u32, const SECOND: u32> Memory for WorldMemory<'a, FIRST, 
         self.shared.token
     }
 
-    fn open(&mut self, change: &RuleChange) {
+    fn open_update(&mut self, change: &RuleChange) {
         let _ = change;
         self.reach();
         self.bump_sequence();
     }
 
-    fn close(&mut self) {
+    fn close_update(&mut self) {
         self.reach();
         self.bump_sequence();
     }

@@ -37,11 +37,11 @@ pub(crate) fn change<const FIRST: u32, const SECOND: u32, M: Memory>(
     ensures rules { control.new.rules ≡ control.old.rules }
     ensures versions { control.new.versions ≡ control.old.versions + 1 }
 {
-    memory.open(rule_change);
+    memory.open_update(rule_change);
     let mut update = update;
     while let Some(group) = update.run::<FIRST, SECOND, M>(memory) {
         retire_group(&mut control.pool, memory, group, &control.config);
     }
-    memory.close();
+    memory.close_update();
     control.versions += 1;
 }

@@ -1,7 +1,7 @@
 //! A memory that one writer changes: words, a sequence, a token, and the workers' counters.
 //!
-//! Whatever keeps the words, the writer of a table makes the same calls. Each store, and `open`, `close`,
-//! `start` and `load_counter`, is one step of a trace; the writer's own loads of words are none.
+//! Whatever keeps the words, the writer of a table makes the same calls. Each store, and `open_update`,
+//! `close_update`, `start` and `load_counter`, is one step of a trace; the writer's own loads of words are none.
 //! `PlainMemory` is the memory of one thread.
 
 ghost use Rattle.std.specs.Prelude.{◌≡◌, ℕ, ◌+◌, ◌^◌, ◌<◌, ◌≤◌, List, ◌∷◌};
@@ -31,7 +31,7 @@ pub trait Memory: Cells {
     ghost does: { Self → WriterStep → Self → Type 0 };
 
     /// How many workers have a counter.
-    fn workers(&self) -> usize
+    fn counters(&self) -> usize
         ensures { result ≡ worker_count self.now };
 
     /// The newest token.
@@ -40,14 +40,14 @@ pub trait Memory: Cells {
         ensures within { result ≤ 2 ^ 62 };
 
     /// The update of this change of the rules begins.
-    fn open(&mut self, change: &RuleChange)
+    fn open_update(&mut self, change: &RuleChange)
         requires may { MayBeNext did self.old (BeginUpdate change.now) }
         requires few { (c : InitialState) × (steps : List WriterStep) × did self.old c steps
             × (updates_done_in (state_after c steps) < 2 ^ 61) }
         ensures does { does self.old (BeginUpdate change.now) self.new };
 
     /// The update is done.
-    fn close(&mut self)
+    fn close_update(&mut self)
         requires may { MayBeNext did self.old EndUpdate }
         ensures does { does self.old EndUpdate self.new };
 

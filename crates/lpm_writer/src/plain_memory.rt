@@ -109,7 +109,7 @@ impl<const FIRST: u32, const SECOND: u32> Memory for PlainMemory<FIRST, SECOND> 
     ghost second_stored = { λ m i w z sets. record { words = sets.0; reports = sets.1; finds = tt } };
 
     #[inline]
-    fn workers(&self) -> usize {
+    fn counters(&self) -> usize {
         self.domain.workers()
     }
 
@@ -119,12 +119,12 @@ impl<const FIRST: u32, const SECOND: u32> Memory for PlainMemory<FIRST, SECOND> 
     }
 
     #[inline]
-    fn open(&mut self, change: &RuleChange) {
+    fn open_update(&mut self, change: &RuleChange) {
         let _ = change;
     }
 
     #[inline]
-    fn close(&mut self) {}
+    fn close_update(&mut self) {}
 
     #[inline]
     fn start(&mut self) -> u64 {

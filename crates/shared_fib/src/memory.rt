@@ -68,7 +68,7 @@ impl<'a, const FIRST: u32, const SECOND: u32> Memory for SharedMemory<'a, FIRST,
     ghost second_stored = { λ m i w z sets. sets };
 
     #[inline]
-    fn workers(&self) -> usize {
+    fn counters(&self) -> usize {
         self.table.workers()
     }
 
@@ -78,13 +78,13 @@ impl<'a, const FIRST: u32, const SECOND: u32> Memory for SharedMemory<'a, FIRST,
     }
 
     #[inline]
-    fn open(&mut self, change: &RuleChange) {
+    fn open_update(&mut self, change: &RuleChange) {
         let number = self.seat.sequence(self.table) + 1;
         self.seat.begin_update(self.table, change, number);
     }
 
     #[inline]
-    fn close(&mut self) {
+    fn close_update(&mut self) {
         let number = self.seat.sequence(self.table) + 1;
         self.seat.end_update(self.table, number);
     }

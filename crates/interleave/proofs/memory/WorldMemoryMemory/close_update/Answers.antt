@@ -1,7 +1,7 @@
 use Rattle.std.proofs.Common.{arith}
 use Rattle.lpm_trace.specs.declared.step.WriterStep.TheVariants.{EndUpdate}
 use Rattle.interleave.proofs.Reaching.{sequence_low, step_does}
-use Rattle.interleave.proofs.memory.WorldMemoryMemory.close.Goals as goal
+use Rattle.interleave.proofs.memory.WorldMemoryMemory.close_update.Goals as goal
 
 pub bump_sequence-requires : goal.bump_sequence-requires
 bump_sequence-requires g c = (omega arith, sequence_low EndUpdate c.requires.may c.reach.ensures.reaches)
