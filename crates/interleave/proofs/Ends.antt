@@ -12,7 +12,7 @@ use Rattle.interleave.specs.World.{HasEnded as ActorHasEnded, IsScheduled, write
 use Rattle.interleave.specs.View.{script_at, WorldView}
 use Rattle.lpm_writer.specs.Resting.{blank_state, IsResting}
 use Rattle.interleave.specs.declared.trace.Trace.{Trace}
-use Rattle.interleave.specs.Runs.{StateBySteps, HasTokensLeft, Waits, Answers, IsAtRest, state_by_steps, IsPerformed, IsRun, initial_state_by_steps, HaveComeOut, InitialStatesAreSettled, RunsAreLawful}
+use Rattle.interleave.specs.Runs.{StateBySteps, HasTokensLeft, Waits, Answers, AgreesWithSteps, state_by_steps, IsPerformed, IsRun, initial_state_by_steps, HaveComeOut, InitialStatesAreSettled, RunsAreLawful}
 use Rattle.std.proofs.lemmas.Bool.{cases_lt}
 use Rattle.lpm_rules.specs.declared.Change.TheVariants.{Synchronize}
 use Rattle.lpm_trace.specs.States.{InitialState, state_after, TableState, Unused, Retired, IsSettled, IsAnswer, addresses, answer, updates_done_in, updates_begun_in, state_at}
@@ -93,7 +93,7 @@ module _ (f s : ℕ) where
   kept_in l steps = state_by_steps l.rules steps l.pool l.versions
 
   -- a control state that rests is at rest by the steps that it has made
-  pub at_rest : (c : InitialState) (steps : List WriterStep) (l : ControlState f s) → Rests c steps l → IsAtRest f s c (kept_in l steps)
+  pub at_rest : (c : InitialState) (steps : List WriterStep) (l : ControlState f s) → Rests c steps l → AgreesWithSteps f s c (kept_in l steps)
   at_rest c steps l rests = record {
     begun = rests.versions;
     rules = rests.version;
@@ -259,7 +259,7 @@ traces_are_lawful c steps start trace = record {
   versions = λ a t u later. versions_never_fall c steps a t u later;
 }
 
-opening_rests : (f g : ℕ) (config : Config) → IsAtRest f g (blank_state f g config) initial_state_by_steps
+opening_rests : (f g : ℕ) (config : Config) → AgreesWithSteps f g (blank_state f g config) initial_state_by_steps
 opening_rests f g config = record {
   begun = refl;
   rules = refl;
@@ -283,8 +283,8 @@ initial_states_are_settled f g config limits = (settled f g config limits, openi
 
 -- from a table at rest, changes that came out leave one at rest
 last_rests : (c : InitialState) (f g : ℕ) (config : Config) (n : ℕ) (opening : StateBySteps) (log : List (Change f g × Reply)) (last : StateBySteps)
-    → IsAtRest f g c opening → HaveComeOut c f g config n opening log last → IsAtRest f g c last
-last_rests c f g config n opening [] last rest h = subst (IsAtRest f g c) (sym h) rest
+    → AgreesWithSteps f g c opening → HaveComeOut c f g config n opening log last → AgreesWithSteps f g c last
+last_rests c f g config n opening [] last rest h = subst (AgreesWithSteps f g c) (sym h) rest
 last_rests c f g config n opening (entry ∷ log) last rest h = h.4.1
 
 pub runs_are_lawful : RunsAreLawful

@@ -57,7 +57,7 @@ Waits c n x z = AreStopped c.workers n (BumpToken ∷ x) (next_token c x) z
 -- the rules are those of the last version, the words represent them (so the groups linked are the
 -- blocks of rules longer than f bits), these groups wait in limbo, and in no update was a word stored
 -- twice
-pub record IsAtRest (f g : ℕ) (c : InitialState) (s : StateBySteps) : Type 0 where
+pub record AgreesWithSteps (f g : ℕ) (c : InitialState) (s : StateBySteps) : Type 0 where
   pub begun : s.begun ≡ updates_done_in (state_after c s.readers)
   pub rules : (state_after c s.readers).history (updates_done_in (state_after c s.readers)) ≡ s.rules
   pub represents : Represents f g s.rules (state_after c s.readers).words
@@ -88,7 +88,7 @@ Answers c f g config s change reply z = ⊥
 -- the change came out so, and what is kept then is what the steps say
 abbrev pub CameOut : InitialState → (first second : ℕ) → Config → StateBySteps → Change first second → Reply → StateBySteps
     → Type 0
-CameOut c f g config s change reply z = Answers c f g config s change reply z × IsAtRest f g c z
+CameOut c f g config s change reply z = Answers c f g config s change reply z × AgreesWithSteps f g c z
 
 -- ---- the writer's script
 
@@ -183,7 +183,7 @@ ShowsFinished steps lookups = (worker : ℕ) → seen_of worker lookups
 -- a table that was just opened with limits in range is one that traces begin with, and is at rest
 abbrev pub InitialStatesAreSettled : Type 0
 InitialStatesAreSettled = (f g : ℕ) (config : Config) → IsConfig config
-    → IsSettled (blank_state f g config) × IsAtRest f g (blank_state f g config) initial_state_by_steps
+    → IsSettled (blank_state f g config) × AgreesWithSteps f g (blank_state f g config) initial_state_by_steps
 
 -- the steps of each run are lawful, it shows what its workers have finished, and after the last change
 -- that was answered the table is at rest: the groups linked are the blocks of its rules
@@ -193,4 +193,4 @@ RunsAreLawful = (f g : ℕ) (config : Config) (script : List (Change f g)) (scri
     → (run : IsRun f g config script scripts schedule shown)
     → IsLawful (blank_state f g config) run.steps
     × ShowsFinished run.steps shown.lookups.items
-    × IsAtRest f g (blank_state f g config) run.trace.performed.last
+    × AgreesWithSteps f g (blank_state f g config) run.trace.performed.last

@@ -34,7 +34,7 @@ use Rattle.shared_words.specs.Rule.{writer_view}
 use Rattle.shared_words.specs.Seats.{IsOf, WordsAt}
 use Rattle.shared_fib.specs.declared.initial_table.InitialTable.{InitialTable}
 use Rattle.shared_fib.specs.Loading.{IsLoaded}
-use Rattle.shared_fib.specs.Running.{Identity, WriterState, IsReady, initial_data_of, initial_writer}
+use Rattle.shared_fib.specs.Running.{Identity, WriterState, IsSoundWriter, initial_data_of, initial_writer}
 use Rattle.shared_fib.proofs.Live.{live_settled, live_rests}
 
 -- The words that were packed for a table are unpacked again.
@@ -185,8 +185,8 @@ module _ (f s : ℕ) (key : InitialTable f s) (words : WordsAt) (seat : TableId)
   now_is = now ∙ ap (λ (x : View). record x { made = made }) view
 
   pub ready : (z : ControlState f s) → IsResting f s (initial_state_of (initial_data_of f s key)) [] z.config z.rules z.pool z.versions
-      → (initial_data_of f s key).token ≤ 2 ^ 62 → IsReady f s z w
-  ready z rests high = subst (IsReady f s z) (sym now_is) (record { rests = rests; token = high })
+      → (initial_data_of f s key).token ≤ 2 ^ 62 → IsSoundWriter f s z w
+  ready z rests high = subst (IsSoundWriter f s z) (sym now_is) (record { rests = rests; token = high })
 
   -- what a contract sees of the writer that has this seat and this control state
   abbrev pub state_by : TableId → ControlState f s → WriterState

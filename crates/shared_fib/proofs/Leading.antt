@@ -27,7 +27,7 @@ use Rattle.atomic_table.specs.Seated.{TableId}
 use Rattle.lpm_trace.specs.States.{InitialState}
 use Rattle.lpm_writer.specs.declared.control.ControlState.{ControlState}
 use Rattle.lpm_writer.specs.Resting.{IsResting, state_of}
-use Rattle.lpm_writer.specs.Commands.{Commands}
+use Rattle.lpm_writer.specs.Commands.{Commands, Rests}
 use Rattle.lpm_writer.specs.Taking.{LinksLeast}
 use Rattle.lpm_writer.specs.Traced.{WithSteps, by_writer}
 use Rattle.lpm_writer.proofs.StepsAlone.{adds_alone, deletes_alone, flushes_alone, frees_alone}
@@ -35,7 +35,7 @@ use Rattle.shared_words.specs.Layout.{InitialData, initial_state_of}
 use Rattle.shared_words.specs.Seats.{AreChecked, AreLawful}
 use Rattle.shared_fib.specs.Leading.{Leads, writer_by}
 use Rattle.shared_fib.specs.Lent.{LentSeat, SharedDid, state_of_lent}
-use Rattle.shared_fib.specs.Running.{Identity, IsReady, IsRestingBy, WriterState, by_steps, steps_of}
+use Rattle.shared_fib.specs.Running.{Identity, IsSoundWriter, WriterState, by_steps, steps_of}
 use Rattle.shared_fib.specs.Freeing.{TakesLeast}
 use Rattle.shared_fib.proofs.Checked.{frees_checked}
 use Rattle.shared_fib.proofs.Freed.{Leaves, adds_leave, deletes_leave, flushes_leave, reclaims_leave}
@@ -203,7 +203,7 @@ told_to Outcome freed w x y id is own led =
 -- The seat, which knew v, was lent to the memory m, after whose steps the control state `old` rested. A command has led from
 -- there to the control state `new` and the memory z.
 module _ (f s : ℕ) (old new : ControlState f s) (v : View) (m z : LentSeat) (first : SharedDid m (initial_state_of v.initial) v.writer_steps)
-    (rested : IsRestingBy f s old v) where
+    (rested : Rests (initial_state_of v.initial) v.writer_steps old) where
   abbrev c : InitialState
   c = initial_state_of v.initial
 
@@ -218,7 +218,7 @@ module _ (f s : ℕ) (old new : ControlState f s) (v : View) (m z : LentSeat) (f
     pub record Came (K : InitialData → WriterState → WriterState → Type 0) (freed : WriterState → List ℕ) : Type 0 where
       pub name : z.name ≡ m.name
       pub at_seat : (t' : TableId) (w : View) → z.table ≡ t' → z.view ≡ w
-          → IsReady f s new w × Leads K freed v.initial before (writer_by t' new w)
+          → IsSoundWriter f s new w × Leads K freed v.initial before (writer_by t' new w)
 
     abbrev before_traced : State (WithSteps LentSeat)
     before_traced = state_of old.rules.rules (m, v.writer_steps) old.pool old.versions
@@ -254,7 +254,7 @@ module _ (f s : ℕ) (old new : ControlState f s) (v : View) (m z : LentSeat) (f
       came K freed started outcome stay goes_on leaves = record {
         name = ap (λ (k : Kept). k.0) stay;
         at_seat = λ t' w there knows.
-            let ready : IsReady f s new z.view = record {
+            let ready : IsSoundWriter f s new z.view = record {
               rests = rests_after (λ by later. IsResting f s by later new.config new.rules new.pool new.versions) z c later did
                   rests;
               token = low;
@@ -269,7 +269,7 @@ module _ (f s : ℕ) (old new : ControlState f s) (v : View) (m z : LentSeat) (f
             } in
             let now = subst (λ (w : WriterState). AreChecked w.identity.initial (steps_of w) → Leads K freed v.initial before w)
             (then_is stay) by_then lawful.checked in (
-              subst (IsReady f s new) knows ready,
+              subst (IsSoundWriter f s new) knows ready,
               subst (Leads K freed v.initial before) (λ i. writer_by (there i) new (knows i)) now,
             );
       }

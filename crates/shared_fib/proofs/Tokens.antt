@@ -19,7 +19,7 @@ use Rattle.shared_words.specs.Layout.{InitialData, initial_state_of}
 use Rattle.shared_words.specs.Seats.{AreLawful, with_step}
 use Rattle.shared_fib.specs.Leading.{IsInGrace}
 use Rattle.shared_fib.specs.Lent.{LentSeat, SharedDid, passed_by, state_of_lent, state_of_view, token_by}
-use Rattle.shared_fib.specs.Running.{IsReady, OnlySees}
+use Rattle.shared_fib.specs.Running.{IsSoundWriter, OnlySees}
 use Rattle.shared_fib.proofs.Seated.{either, on_err_then, on_ok_both, on_ok_then, seat_passed, seat_token_stays, Kept, kept, does_in, stays, only_sees, outcome_after, rests_after}
 use Rattle.shared_fib.proofs.Waited.{exhausted_by, queued_passed}
 
@@ -76,7 +76,7 @@ module _ (f s : ℕ) (old new : ControlState f s) (v w : View) (m z : LentSeat) 
     pub token : token_by x ≡ token_by v
     pub checked : OnOk r (IsChecked v.initial.workers v.initial.token x.writer_steps (token_by v))
     pub queued : OnOk r (0 < old.config.workers → All (λ token. token ≤ passed_by x) (tokens_of new.pool.queue.items))
-    pub ready : OnOk r (IsReady f s new x)
+    pub ready : OnOk r (IsSoundWriter f s new x)
     pub waits : OnErr r (IsInGrace f s new w)
     pub table : z.table ≡ m.table
     pub view : OnlySees v x

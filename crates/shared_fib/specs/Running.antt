@@ -17,7 +17,8 @@ use Rattle.lpm_trace.specs.Trace.{worker_by, Phase, Offline, Online}
 use Rattle.lpm_writer.specs.declared.control.ControlState.{ControlState}
 use Rattle.lpm_writer.specs.Steps.{by_steps_from, StoresOnce}
 use Rattle.lpm_writer.specs.Matching.{IsLimbo}
-use Rattle.lpm_writer.specs.Resting.{IsResting, state_of}
+use Rattle.lpm_writer.specs.Commands.{Rests}
+use Rattle.lpm_writer.specs.Resting.{state_of}
 use Rattle.shared_words.specs.declared.layout.Layout.{Layout}
 use Rattle.shared_words.specs.declared.view.View.{View}
 use Rattle.shared_words.specs.Layout.{InitialData, coded_initial_data, initial_state_of, word_count}
@@ -104,14 +105,10 @@ initial_writer id config rules = record {
 abbrev pub state_by : {first second : ℕ} → ControlState first second → View → State (List WriterStep)
 state_by control v = state_of control.rules.rules v.writer_steps control.pool control.versions
 
--- after the steps of the seat the control state rests
-abbrev pub IsRestingBy : (first second : ℕ) → ControlState first second → View → Type 0
-IsRestingBy first second control v = IsResting first second (initial_state_of v.initial) v.writer_steps
-    control.config control.rules control.pool control.versions
-
--- the same, and the tokens are not past their bound
-pub record IsReady (first second : ℕ) (control : ControlState first second) (v : View) : Type 0 where
-  pub rests : IsRestingBy first second control v
+-- A writer between its commands: after the steps of its seat the control state rests, and the tokens are not past
+-- their bound
+pub record IsSoundWriter (first second : ℕ) (control : ControlState first second) (v : View) : Type 0 where
+  pub rests : Rests (initial_state_of v.initial) v.writer_steps control
   pub token : (state_after (initial_state_of v.initial) v.writer_steps).token ≤ 2 ^ 62
 
 -- of what the seat knows only the writer's steps have changed

@@ -4,7 +4,7 @@ ghost use Rattle.std.specs.Prelude.{ℕ, List, take};
 ghost use Rattle.fib_model.specs.Outcomes.{Adds, Deletes, Flushes, Frees};
 ghost use Rattle.shared_words.specs.Seats.{IsOf};
 ghost use Rattle.shared_fib.specs.Leading.{Leads, writer_by};
-ghost use Rattle.shared_fib.specs.Running.{IsReady, by_steps};
+ghost use Rattle.shared_fib.specs.Running.{IsSoundWriter, by_steps};
 ghost use Rattle.shared_fib.specs.Freeing.{TakesLeast};
 
 use crate::SharedMemory;
@@ -25,8 +25,8 @@ pub(crate) fn add_by<const FIRST: u32, const SECOND: u32>(
     hop: Hop,
 ) -> Result<Put, Refusal>
     requires own { IsOf table.now seat.old.table seat.old.view }
-    requires ready { IsReady FIRST SECOND control.old seat.old.view }
-    ensures ready { IsReady FIRST SECOND control.new seat.new.view }
+    requires ready { IsSoundWriter FIRST SECOND control.old seat.old.view }
+    ensures ready { IsSoundWriter FIRST SECOND control.new seat.new.view }
     ensures leads { (freed : List ℕ) × Leads (λ o x y.
         Adds (by_steps o) FIRST SECOND x.config x.table prefix.now hop result y.table
         × TakesLeast o x.table y.table)
@@ -48,8 +48,8 @@ pub(crate) fn delete_by<const FIRST: u32, const SECOND: u32>(
     prefix: &Prefix<FIRST, SECOND>,
 ) -> Result<Hop, Refusal>
     requires own { IsOf table.now seat.old.table seat.old.view }
-    requires ready { IsReady FIRST SECOND control.old seat.old.view }
-    ensures ready { IsReady FIRST SECOND control.new seat.new.view }
+    requires ready { IsSoundWriter FIRST SECOND control.old seat.old.view }
+    ensures ready { IsSoundWriter FIRST SECOND control.new seat.new.view }
     ensures leads { (freed : List ℕ) × Leads (λ o x y.
         Deletes (by_steps o) FIRST SECOND x.config x.table prefix.now result y.table)
         (λ _. freed) seat.old.view.initial
@@ -69,8 +69,8 @@ pub(crate) fn flush_by<const FIRST: u32, const SECOND: u32>(
     table: &Words<FIRST, SECOND>,
 ) -> Result<usize, Refusal>
     requires own { IsOf table.now seat.old.table seat.old.view }
-    requires ready { IsReady FIRST SECOND control.old seat.old.view }
-    ensures ready { IsReady FIRST SECOND control.new seat.new.view }
+    requires ready { IsSoundWriter FIRST SECOND control.old seat.old.view }
+    ensures ready { IsSoundWriter FIRST SECOND control.new seat.new.view }
     ensures leads { (freed : List ℕ) × Leads (λ o x y.
         Flushes (by_steps o) FIRST SECOND x.config x.table result y.table)
         (λ _. freed) seat.old.view.initial
@@ -91,8 +91,8 @@ pub(crate) fn reclaim_by<const FIRST: u32, const SECOND: u32>(
     max: usize,
 ) -> Reclaimed
     requires own { IsOf table.now seat.old.table seat.old.view }
-    requires ready { IsReady FIRST SECOND control.old seat.old.view }
-    ensures ready { IsReady FIRST SECOND control.new seat.new.view }
+    requires ready { IsSoundWriter FIRST SECOND control.old seat.old.view }
+    ensures ready { IsSoundWriter FIRST SECOND control.new seat.new.view }
     ensures leads { Leads (λ o x y. Frees (by_steps o) x.table max result y.table)
         (λ x. take result.freed x.table.limbo) seat.old.view.initial
         (writer_by seat.old.table control.old seat.old.view)

@@ -8,7 +8,7 @@ ghost use Rattle.lpm_writer.specs.Waiting.{tokens_of};
 ghost use Rattle.shared_words.specs.Seats.{IsOf, with_step};
 ghost use Rattle.shared_fib.specs.Lent.{passed_by, token_by};
 ghost use Rattle.shared_fib.specs.Leading.{IsInGrace};
-ghost use Rattle.shared_fib.specs.Running.{IsReady, OnlySees, passed_of, state_by, steps_of, token_of};
+ghost use Rattle.shared_fib.specs.Running.{IsSoundWriter, OnlySees, passed_of, state_by, steps_of, token_of};
 
 use crate::table::Words;
 use crate::{SharedMemory, SharedTable, Writer};
@@ -66,7 +66,7 @@ fn start_token<const FIRST: u32, const SECOND: u32>(
     table: &Words<FIRST, SECOND>,
 ) -> Result<(), Exhausted>
     requires own { IsOf table.now seat.old.table seat.old.view }
-    requires ready { IsReady FIRST SECOND control.now seat.old.view }
+    requires ready { IsSoundWriter FIRST SECOND control.now seat.old.view }
     ensures exhausted { IsErr result
         ↔ (2 ^ 62 < token_by seat.old.view + control.now.config.groups) }
     ensures started { OnOk result
@@ -98,7 +98,7 @@ fn check_token<const FIRST: u32, const SECOND: u32>(
     ensures queued { OnOk result (0 < control.old.config.workers
         → All (λ token. token ≤ passed_by seat.new.view)
         (tokens_of control.new.pool.queue.items)) }
-    ensures ready { OnOk result (IsReady FIRST SECOND control.new seat.new.view) }
+    ensures ready { OnOk result (IsSoundWriter FIRST SECOND control.new seat.new.view) }
     ensures waits { OnErr result (IsInGrace FIRST SECOND control.new seat.new.view) }
     ensures same { control.new ≡ record control.old {
       pool = record control.old.pool { passed = control.new.pool.passed };

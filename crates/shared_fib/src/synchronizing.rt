@@ -4,13 +4,13 @@ ghost use Rattle.std.specs.Prelude.{◌≡◌, ◌+◌, ◌^◌, ◌<◌, ◌≤
 ghost use Rattle.lpm_trace.specs.Laws.{IsChecked};
 ghost use Rattle.lpm_writer.specs.Waiting.{tokens_of};
 ghost use Rattle.lpm_writer.specs.Steps.{Synchronizes};
-ghost use Rattle.lpm_writer.specs.Commands.{IsWaiting};
+ghost use Rattle.lpm_writer.specs.Commands.{IsWaiting, Rests};
 ghost use Rattle.shared_words.specs.Layout.{initial_state_of};
 ghost use Rattle.shared_words.specs.Rule.{IsLater};
 ghost use Rattle.shared_words.specs.Seats.{IsOf};
 ghost use Rattle.shared_fib.specs.Lent.{SharedDid, passed_by, token_by};
 ghost use Rattle.shared_fib.specs.Leading.{PassesAtLast};
-ghost use Rattle.shared_fib.specs.Running.{IsReady, OnlySees, IsRestingBy, passed_of, steps_of, token_of};
+ghost use Rattle.shared_fib.specs.Running.{IsSoundWriter, OnlySees, passed_of, steps_of, token_of};
 
 use crate::table::Words;
 use crate::{SharedMemory, SharedTable, Writer};
@@ -33,7 +33,8 @@ fn check_until_passed<const FIRST: u32, const SECOND: u32, R: Wait>(
     ensures queued { 0 < control.old.config.workers
         → All (λ token. token ≤ passed_by memory.new.view)
         (tokens_of control.new.pool.queue.items) }
-    ensures rests { IsRestingBy FIRST SECOND control.new memory.new.view }
+    ensures rests { Rests (initial_state_of memory.new.view.initial) memory.new.view.writer_steps
+        control.new }
     ensures same { control.new ≡ record control.old {
       pool = record control.old.pool { passed = control.new.pool.passed };
     } }
@@ -56,7 +57,8 @@ fn synchronize_over<const FIRST: u32, const SECOND: u32, R: Wait>(
     memory: &mut SharedMemory<'_, FIRST, SECOND>,
 ) -> Result<(), Exhausted>
     requires did { SharedDid memory.old (initial_state_of memory.old.view.initial) memory.old.view.writer_steps }
-    requires rests { IsRestingBy FIRST SECOND control.old memory.old.view }
+    requires rests { Rests (initial_state_of memory.old.view.initial) memory.old.view.writer_steps
+        control.old }
     ensures exhausted { IsErr result
         ↔ (2 ^ 62 < token_by memory.old.view + control.old.config.groups) }
     ensures synchronizes { OnOk result (Synchronizes memory.old.view.initial.workers
@@ -64,7 +66,8 @@ fn synchronize_over<const FIRST: u32, const SECOND: u32, R: Wait>(
     ensures queued { OnOk result (0 < control.old.config.workers
         → All (λ token. token ≤ passed_by memory.new.view)
         (tokens_of control.new.pool.queue.items)) }
-    ensures rests { IsRestingBy FIRST SECOND control.new memory.new.view }
+    ensures rests { Rests (initial_state_of memory.new.view.initial) memory.new.view.writer_steps
+        control.new }
     ensures same { control.new ≡ record control.old {
       pool = record control.old.pool { passed = control.new.pool.passed };
     } }
@@ -86,7 +89,7 @@ fn synchronize_by<const FIRST: u32, const SECOND: u32, R: Wait>(
     table: &Words<FIRST, SECOND>,
 ) -> Result<(), Exhausted>
     requires own { IsOf table.now seat.old.table seat.old.view }
-    requires ready { IsReady FIRST SECOND control.old seat.old.view }
+    requires ready { IsSoundWriter FIRST SECOND control.old seat.old.view }
     ensures exhausted { IsErr result
         ↔ (2 ^ 62 < token_by seat.old.view + control.old.config.groups) }
     ensures synchronizes { OnOk result (Synchronizes seat.old.view.initial.workers
@@ -98,7 +101,7 @@ fn synchronize_by<const FIRST: u32, const SECOND: u32, R: Wait>(
     ensures queued { OnOk result (0 < control.old.config.workers
         → All (λ token. token ≤ passed_by seat.new.view)
         (tokens_of control.new.pool.queue.items)) }
-    ensures ready { IsReady FIRST SECOND control.new seat.new.view }
+    ensures ready { IsSoundWriter FIRST SECOND control.new seat.new.view }
     ensures same { control.new ≡ record control.old {
       pool = record control.old.pool { passed = control.new.pool.passed };
     } }

@@ -4,7 +4,7 @@ ghost use Rattle.std.specs.Prelude.{ℕ, ◌≡◌, List, take};
 ghost use Rattle.fib_model.specs.Outcomes.{Adds, Deletes, Flushes, Frees};
 ghost use Rattle.shared_words.specs.Rule.{IsLater};
 ghost use Rattle.shared_fib.specs.Freeing.{FreesChecked, TakesLeast};
-ghost use Rattle.shared_fib.specs.Running.{IsReady, by_steps, state_by, steps_of};
+ghost use Rattle.shared_fib.specs.Running.{IsSoundWriter, by_steps, state_by, steps_of};
 
 use crate::SharedTable;
 use crate::commands::{add_by, delete_by, flush_by, reclaim_by};
@@ -32,7 +32,7 @@ pub struct Writer<const FIRST: u32, const SECOND: u32> {
 }
 
 impl<const FIRST: u32, const SECOND: u32> Model for Writer<FIRST, SECOND> {
-    ghost use Rattle.shared_fib.specs.Running.{WriterState, coded_writer, IsReady, state_by};
+    ghost use Rattle.shared_fib.specs.Running.{WriterState, coded_writer, IsSoundWriter, state_by};
 
     ghost Value = { WriterState };
 
@@ -44,13 +44,13 @@ impl<const FIRST: u32, const SECOND: u32> Model for Writer<FIRST, SECOND> {
       table = state_by w.control w.seat.view;
     } };
 
-    ghost invariant = { λ w. IsReady FIRST SECOND w.control w.seat.view };
+    ghost invariant = { λ w. IsSoundWriter FIRST SECOND w.control w.seat.view };
 }
 
 impl<const FIRST: u32, const SECOND: u32> Writer<FIRST, SECOND> {
     // The writer that keeps this control state, and has this seat.
     pub(crate) fn new(control: ControlState<FIRST, SECOND>, seat: WriterSeat) -> Self
-        requires { IsReady FIRST SECOND control seat.view }
+        requires { IsSoundWriter FIRST SECOND control seat.view }
         ensures { result ≡ record {
           identity = record { words = seat.table; initial = seat.view.initial };
           config = control.entry.config;

@@ -13,7 +13,7 @@ use Rattle.shared_words.specs.declared.view.Role.TheVariants.{Worker, Writer as 
 use Rattle.shared_words.specs.declared.view.View.{View}
 use Rattle.shared_words.specs.Layout.{InitialData, initial_state_of, half, first_at, second_at, sequence_at, token_at, counter_at, pairs}
 use Rattle.shared_words.specs.Rule.{Holds}
-use Rattle.shared_words.specs.Seats.{IsFirstAt, IsSecondAt, WorkerGains, WorkerGainsFirst, WorkerGainsSecond, IsOf, WordsAt, WorkerAt, IsWorkerSeat, WriterAt, WriterLooks, MayFollow, state_of_view}
+use Rattle.shared_words.specs.Seats.{IsFirstAt, IsSecondAt, WorkerGains, IsOf, WordsAt, WorkerAt, IsWorkerSeat, WriterAt, WriterLooks, MayFollow, state_of_view}
 use Rattle.shared_words.proofs.Workings.{IsQuiet, St, load_allowed, plain, store_allowed}
 use mathlib.Core.Option.{none}
 use Rattle.atomic_table.specs.Seated.{TableId}
@@ -21,6 +21,16 @@ use Rattle.lpm_trace.specs.declared.step.WriterStep.{WriterStep}
 use Rattle.lpm_trace.specs.declared.step.WriterStep.TheVariants.{StoreFirst, StoreSecond}
 use Rattle.shared_words.proofs.Laying.{firsts_length, seconds_length}
 use Rattle.shared_words.proofs.Writing.{looks_allowed}
+
+-- it gains the load of a first word, which may stand in the first table
+abbrev pub WorkerGainsFirst : Me (Unit {0}) View → ℕ → Me (Unit {0}) View → Type 0
+WorkerGainsFirst me n me' = WorkerGains (LoadFirst n) me me'
+    × IsFirstWord (me.0.initial.first + me.0.initial.second) me.0.initial.second me.0.initial.seconds n
+
+-- it gains the load of a second word, which ends a lookup
+abbrev pub WorkerGainsSecond : Me (Unit {0}) View → ℕ → Me (Unit {0}) View → Type 0
+WorkerGainsSecond me n me' = WorkerGains (LoadSecond n) me me'
+    × IsLastWord (me.0.initial.first + me.0.initial.second) n
 
 -- the place decides which first word is next, and which second word
 next_first : (o : InitialData) (w : TableState) (word i : ℕ) (probes : List Probe) → IsFirstAt o.second i probes

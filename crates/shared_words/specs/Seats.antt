@@ -7,8 +7,7 @@ use Rattle.atomic_table.specs.Seated.{TableId, table_id_coded}
 use Rattle.atomic_table.specs.Table.{Me, Step}
 use Rattle.lpm_trace.specs.declared.step.WriterStep.{WriterStep}
 use Rattle.lpm_trace.specs.declared.step.WorkerStep.{WorkerStep}
-use Rattle.lpm_trace.specs.declared.step.WorkerStep.TheVariants.{LoadFirst, LoadSecond}
-use Rattle.lpm_cells.specs.Words.{IsLastWord, IsWords, IsFirstWord}
+use Rattle.lpm_cells.specs.Words.{IsWords}
 use Rattle.lpm_trace.specs.States.{TableState, state_after}
 use Rattle.lpm_trace.specs.Writer.{IsWritten, MayStep, passed_after}
 use Rattle.lpm_trace.specs.Trace.{worker_by, Probe, Unread, InGroup, Answered}
@@ -145,16 +144,6 @@ pub record IsWorkerSeat (number : ℕ) (me : Me (Unit {0}) View) : Type 0 where
   pub role : me.0.role ≡ AsWorker number
   pub inside : number < me.0.initial.workers
   pub sound : IsSound me.0
-
--- it gains the load of a first word, which may stand in the first table
-abbrev pub WorkerGainsFirst : Me (Unit {0}) View → ℕ → Me (Unit {0}) View → Type 0
-WorkerGainsFirst me n me' = WorkerGains (LoadFirst n) me me'
-    × IsFirstWord (me.0.initial.first + me.0.initial.second) me.0.initial.second me.0.initial.seconds n
-
--- it gains the load of a second word, which ends a lookup
-abbrev pub WorkerGainsSecond : Me (Unit {0}) View → ℕ → Me (Unit {0}) View → Type 0
-WorkerGainsSecond me n me' = WorkerGains (LoadSecond n) me me'
-    × IsLastWord (me.0.initial.first + me.0.initial.second) n
 
 -- the next first word that a lookup of these addresses reads is at place i
 abbrev pub IsFirstAt : ℕ → ℕ → List Probe → Type 0
