@@ -21,7 +21,7 @@ impl<'a, const FIRST: u32, const SECOND: u32> Cells for SharedMemory<'a, FIRST, 
 
     #[inline]
     fn first(&mut self, i: usize) -> u64 {
-        self.seat.first(self.table, i)
+        self.seat.stored_first(self.table, i)
     }
 
     #[inline]
@@ -31,7 +31,7 @@ impl<'a, const FIRST: u32, const SECOND: u32> Cells for SharedMemory<'a, FIRST, 
 
     #[inline]
     fn second(&mut self, i: usize) -> u64 {
-        self.seat.second(self.table, i)
+        self.seat.stored_second(self.table, i)
     }
 
     #[inline]
@@ -79,13 +79,13 @@ impl<'a, const FIRST: u32, const SECOND: u32> Memory for SharedMemory<'a, FIRST,
 
     #[inline]
     fn open_update(&mut self, change: &RuleChange) {
-        let number = self.seat.sequence(self.table) + 1;
+        let number = self.seat.stored_sequence(self.table) + 1;
         self.seat.begin_update(self.table, change, number);
     }
 
     #[inline]
     fn close_update(&mut self) {
-        let number = self.seat.sequence(self.table) + 1;
+        let number = self.seat.stored_sequence(self.table) + 1;
         self.seat.end_update(self.table, number);
     }
 
@@ -99,6 +99,6 @@ impl<'a, const FIRST: u32, const SECOND: u32> Memory for SharedMemory<'a, FIRST,
 
     #[inline]
     fn load_counter(&mut self, checked: u64, worker: usize) -> u64 {
-        self.seat.load_counter(self.table, checked, worker)
+        self.seat.check_counter(self.table, checked, worker)
     }
 }

@@ -87,7 +87,7 @@ impl Pass {
     pub fn history(&self)
         ensures { IsHistory self.now }
     {
-        self.seat.history();
+        self.seat.steps_are_lawful();
     }
 
     /// Whether the pass is online: from a report that it is until one that it is offline.
@@ -182,7 +182,7 @@ impl Pass {
         ensures online { self.new.online ≡ true }
     {
         let found = lookup_address::<FIRST, SECOND, _>(&mut self.seat, &table.words, addr);
-        self.seat.history();
+        self.seat.steps_are_lawful();
         found
     }
 
@@ -239,7 +239,7 @@ impl Pass {
     {
         let words = &table.words;
         let found = lookup_four_addresses::<FIRST, SECOND, _>(&mut self.seat, words, a, b, c, d);
-        self.seat.history();
+        self.seat.steps_are_lawful();
         found
     }
 
@@ -260,7 +260,7 @@ impl Pass {
         ensures online { self.old.online ≡ true → self.new.online ≡ true }
         ensures offline { self.old.online ≡ false → self.new.online ≡ false }
     {
-        self.seat.meet(&table.words, &mut writer.seat);
+        self.seat.meet_writer(&table.words, &mut writer.seat);
     }
 }
 

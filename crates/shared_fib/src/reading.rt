@@ -52,7 +52,7 @@ impl<const FIRST: u32, const SECOND: u32> Writer<FIRST, SECOND> {
     pub fn at_rest(&self)
         ensures { IsAtRest self.now }
     {
-        self.seat.history();
+        self.seat.steps_are_lawful();
     }
 
     /// The number of changes that made a version of the rule list, since the table was opened.
@@ -69,7 +69,7 @@ impl<const FIRST: u32, const SECOND: u32> Writer<FIRST, SECOND> {
         ensures value { result ≡ token_of self.old }
         ensures within { result ≤ 2 ^ 62 }
     {
-        self.seat.token(&table.words)
+        self.seat.stored_token(&table.words)
     }
 
     /// The limits that the table was opened with.

@@ -53,8 +53,8 @@ impl<'a, const FIRST: u32, const SECOND: u32> SharedMemory<'a, FIRST, SECOND> {
         ensures view { result.view ≡ seat.old.view }
         ensures did { SharedDid result (initial_state_of seat.old.view.initial) seat.old.view.writer_steps }
     {
-        seat.history();
-        let token = seat.token(table);
+        seat.steps_are_lawful();
+        let token = seat.stored_token(table);
         SharedMemory { table, seat, token }
     }
 
@@ -67,7 +67,7 @@ impl<'a, const FIRST: u32, const SECOND: u32> SharedMemory<'a, FIRST, SECOND> {
         ensures updates { updates_begun_in (state_of_lent self.entry) ≤ 2 ^ 61 }
         ensures lawful { AreLawful self.entry.view.initial self.entry.view.writer_steps }
     {
-        self.seat.history();
+        self.seat.steps_are_lawful();
         self.seat
     }
 }

@@ -114,7 +114,7 @@ fn synchronize_by<const FIRST: u32, const SECOND: u32, R: Wait>(
     let mut memory = SharedMemory::new(table, seat);
     let came = synchronize_over(rt, control, &mut memory);
     memory.done();
-    seat.history();
+    seat.steps_are_lawful();
     came
 }
 

@@ -57,7 +57,7 @@ impl WorkerSeat {
     /// Does nothing: its contract says what the steps of a worker, and those that it has seen of the
     /// writer, are.
     #[inline]
-    pub fn history(&self)
+    pub fn steps_are_lawful(&self)
         ensures { IsSound self.now.view }
     {
         let _ = &self.place;
@@ -201,7 +201,11 @@ impl WorkerSeat {
 
     /// Loads the sequence once. Then this worker has seen all that the writer has done. The writer stays as
     /// it was.
-    pub fn meet<T: InitialContent>(&mut self, table: &SharedWords<T>, writer: &mut WriterSeat)
+    pub fn meet_writer<T: InitialContent>(
+        &mut self,
+        table: &SharedWords<T>,
+        writer: &mut WriterSeat,
+    )
         requires own { IsOf table.now self.old.table self.old.view }
         requires between { IsBetweenDeeds (worker_by self.old.view.own_steps).phase }
         requires writer { IsOf table.now writer.old.table writer.old.view }

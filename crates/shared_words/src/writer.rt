@@ -35,7 +35,7 @@ impl Model for WriterSeat {
 impl WriterSeat {
     /// Does nothing: its contract says what the writer's steps are.
     #[inline]
-    pub fn history(&self)
+    pub fn steps_are_lawful(&self)
         ensures { AreLawful self.now.view.initial self.now.view.writer_steps }
     {
         let _ = &self.place;
@@ -117,7 +117,7 @@ impl WriterSeat {
 
     /// Loads the counter of a worker, in a check of the token.
     #[inline]
-    pub fn load_counter<T: InitialContent>(
+    pub fn check_counter<T: InitialContent>(
         &mut self,
         table: &SharedWords<T>,
         token: u64,
@@ -135,7 +135,7 @@ impl WriterSeat {
 
     /// The first word at place `i`, which this writer alone changes. It is no step.
     #[inline]
-    pub fn first<T: InitialContent>(&mut self, table: &SharedWords<T>, i: usize) -> u64
+    pub fn stored_first<T: InitialContent>(&mut self, table: &SharedWords<T>, i: usize) -> u64
         requires own { IsOf table.now self.old.table self.old.view }
         requires index { i < table.now.layout.firsts }
         ensures same { self.new ≡ self.old }
@@ -147,7 +147,7 @@ impl WriterSeat {
 
     /// The second word at place `j`, which this writer alone changes. It is no step.
     #[inline]
-    pub fn second<T: InitialContent>(&mut self, table: &SharedWords<T>, j: usize) -> u64
+    pub fn stored_second<T: InitialContent>(&mut self, table: &SharedWords<T>, j: usize) -> u64
         requires own { IsOf table.now self.old.table self.old.view }
         requires index { j < table.now.layout.seconds }
         ensures same { self.new ≡ self.old }
@@ -159,7 +159,7 @@ impl WriterSeat {
 
     /// The sequence, which this writer alone changes. It is no step.
     #[inline]
-    pub fn sequence<T: InitialContent>(&mut self, table: &SharedWords<T>) -> u64
+    pub fn stored_sequence<T: InitialContent>(&mut self, table: &SharedWords<T>) -> u64
         requires own { IsOf table.now self.old.table self.old.view }
         ensures same { self.new ≡ self.old }
         ensures value { result ≡ (state_of_view self.old.view).sequence }
@@ -170,7 +170,7 @@ impl WriterSeat {
 
     /// The token, which this writer alone changes. It is no step.
     #[inline]
-    pub fn token<T: InitialContent>(&mut self, table: &SharedWords<T>) -> u64
+    pub fn stored_token<T: InitialContent>(&mut self, table: &SharedWords<T>) -> u64
         requires own { IsOf table.now self.old.table self.old.view }
         ensures same { self.new ≡ self.old }
         ensures value { result ≡ (state_of_view self.old.view).token }

@@ -13,7 +13,7 @@ returns-clause-started g c =
     let v : View = c.args.seat.now.view in
     let w : View = c.seat-1.given.0.view in
     let sees : OnlySees v w = search rules in
-    let checked = looked v w sees c.history.ensures.checked in
+    let checked = looked v w sees c.steps_are_lawful.ensures.checked in
     let came : OnOk c.synchronize_over-came.result (Synchronizes v.initial.workers v.initial.token v.writer_steps w.writer_steps) = search rules in
     on_ok_weaker c.synchronize_over-came.result (λ h. (synchronize_checked v w sees h checked).started) came
 
@@ -22,7 +22,7 @@ returns-clause-checked g c =
     let v : View = c.args.seat.now.view in
     let w : View = c.seat-1.given.0.view in
     let sees : OnlySees v w = search rules in
-    let checked = looked v w sees c.history.ensures.checked in
+    let checked = looked v w sees c.steps_are_lawful.ensures.checked in
     let came : OnOk c.synchronize_over-came.result (Synchronizes v.initial.workers v.initial.token v.writer_steps w.writer_steps) = search rules in
     on_ok_weaker c.synchronize_over-came.result (λ h. (synchronize_checked v w sees h checked).checked) came
 

@@ -4,8 +4,8 @@ use Rattle.shared_words.proofs.Laying.{firsts_length}
 use Rattle.shared_fib.specs.Lent.{LentSeat, state_of_lent}
 use Rattle.shared_fib.proofs.memory.SharedMemoryCells.first.Goals as goal
 
-pub first-requires-clause-index : goal.first-requires-clause-index
-first-requires-clause-index g c =
+pub stored_first-requires-clause-index : goal.stored_first-requires-clause-index
+stored_first-requires-clause-index g c =
     let v = c.self.inside.seat.now.view in
     let own = c.self.invariant.0 in
     omega (

@@ -4,8 +4,8 @@ use Rattle.shared_words.proofs.Laying.{seconds_length}
 use Rattle.shared_fib.specs.Lent.{LentSeat, state_of_lent}
 use Rattle.shared_fib.proofs.memory.SharedMemoryCells.second.Goals as goal
 
-pub second-requires-clause-index : goal.second-requires-clause-index
-second-requires-clause-index g c =
+pub stored_second-requires-clause-index : goal.stored_second-requires-clause-index
+stored_second-requires-clause-index g c =
     let v = c.self.inside.seat.now.view in
     let own = c.self.invariant.0 in
     omega (

@@ -8,9 +8,9 @@ returns-clause-all c = search rules
 
 pub returns-clause-step : goal.returns-clause-step
 returns-clause-step g c =
-    let step = c.meet.ensures.step in
+    let step = c.meet_writer.ensures.step in
     let seat = c.self.inside.seat in
     let told : WorkerAt = record seat { view = record seat.view { heard = c.writer.inside.seat.view.writer_steps } } in
-    let one = makes_one c.self.inside.is_online _ _ told c.meet.new.self c.args.self.now c.self.view_is
-    c.meet.ensures.own c.meet.ensures.worker (told.view, refl, step.1) in
+    let one = makes_one c.self.inside.is_online _ _ told c.meet_writer.new.self c.args.self.now c.self.view_is
+    c.meet_writer.ensures.own c.meet_writer.ensures.worker (told.view, refl, step.1) in
     (step.0, one.0, one.1)

@@ -9,4 +9,4 @@ returns g c =
     let seat = c.self.inside.seat in
     subst IsAtRest c.self.view_is
     (at_rest g.row.FIRST g.row.SECOND (record { words = seat.table; initial = seat.view.initial })
-    l.config l.rules seat.view.writer_steps l.pool l.versions c.history.ensures.written c.self.invariant.rests)
+    l.config l.rules seat.view.writer_steps l.pool l.versions c.steps_are_lawful.ensures.written c.self.invariant.rests)

@@ -5,7 +5,7 @@ use Rattle.shared_words.specs.declared.view.View.{View}
 use Rattle.shared_words.specs.Seats.{WorkerAt}
 use Rattle.shared_words.proofs.Reading.{meets_allowed, own_inside, writer_inside}
 use Rattle.shared_words.proofs.Deeds.{notes_split, notes_join, compares_allowed}
-use Rattle.shared_words.proofs.worker.WorkerSeat.meet.Goals as goal
+use Rattle.shared_words.proofs.worker.WorkerSeat.meet_writer.Goals as goal
 
 pub split_seat-told-requires : goal.split_seat-told-requires
 split_seat-told-requires g c =

@@ -1,6 +1,6 @@
 use Rattle.std.proofs.Common.{arith, rules}
 use Rattle.shared_words.proofs.Reading.{looks}
-use Rattle.shared_words.proofs.writer.WriterSeat.token.Goals as goal
+use Rattle.shared_words.proofs.writer.WriterSeat.stored_sequence.Goals as goal
 
 pub load-requires : goal.load-requires
 load-requires g c =

@@ -1,7 +1,7 @@
 use Rattle.std.proofs.Common.{arith, ap, rules}
 use Rattle.shared_words.specs.Seats.{WordsAt}
 use Rattle.shared_words.proofs.Reading.{looks}
-use Rattle.shared_words.proofs.writer.WriterSeat.first.Goals as goal
+use Rattle.shared_words.proofs.writer.WriterSeat.stored_first.Goals as goal
 
 pub load-requires : goal.load-requires
 load-requires g c =
