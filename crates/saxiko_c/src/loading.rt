@@ -55,7 +55,7 @@ pub(crate) fn read(
 }
 
 /// A table with the rules of these routes: of those of one prefix the last counts.
-pub(crate) fn load(
+pub(crate) fn load_table(
     alloc: Global,
     config: Config,
     routes: &[SaxikoRoute],

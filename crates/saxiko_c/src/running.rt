@@ -24,7 +24,7 @@ use lpm_writer::OpenError;
 use saxiko::Reader;
 use std::alloc::Global;
 
-pub(crate) fn open(alloc: Global, config: Config) -> Result<Box<Owner>, i32>
+pub(crate) fn open_owner(alloc: Global, config: Config) -> Result<Box<Owner>, i32>
     ensures { MatchResult result (λ b. IsOpened config b.value) (IsUnopened config) }
 {
     match saxiko::Owner::open(alloc, config) {
@@ -35,7 +35,7 @@ pub(crate) fn open(alloc: Global, config: Config) -> Result<Box<Owner>, i32>
 }
 
 /// A running table with the rules of these routes: of those of one prefix the last counts.
-pub(crate) fn load(
+pub(crate) fn load_owner(
     alloc: Global,
     config: Config,
     routes: &[SaxikoRoute],
@@ -60,7 +60,7 @@ pub(crate) fn load(
     }
 }
 
-pub(crate) fn add(owner: &mut Owner, addr: u32, depth: u8, hop: u32) -> i32
+pub(crate) fn add_rule(owner: &mut Owner, addr: u32, depth: u8, hop: u32) -> i32
     ensures { AtRest (AddsTo addr depth hop) ⊤ owner.old result owner.new }
 {
     let Stage::AtRest(running) = &mut owner.stage else {
@@ -72,7 +72,7 @@ pub(crate) fn add(owner: &mut Owner, addr: u32, depth: u8, hop: u32) -> i32
     }
 }
 
-pub(crate) fn delete(owner: &mut Owner, addr: u32, depth: u8, hop: &mut u32) -> i32
+pub(crate) fn delete_rule(owner: &mut Owner, addr: u32, depth: u8, hop: &mut u32) -> i32
     ensures { AtRest (DeletesFrom addr depth hop.old hop.new) (hop.new ≡ hop.old)
         owner.old result owner.new }
 {
@@ -85,7 +85,7 @@ pub(crate) fn delete(owner: &mut Owner, addr: u32, depth: u8, hop: &mut u32) -> 
     }
 }
 
-pub(crate) fn flush(owner: &mut Owner, rules: &mut usize) -> i32
+pub(crate) fn flush_rules(owner: &mut Owner, rules: &mut usize) -> i32
     ensures { AtRest (Flushes rules.old rules.new) (rules.new ≡ rules.old)
         owner.old result owner.new }
 {
@@ -102,7 +102,7 @@ pub(crate) fn flush(owner: &mut Owner, rules: &mut usize) -> i32
 }
 
 /// Returns 1 where a reader holds the next group that waits.
-pub(crate) fn reclaim(
+pub(crate) fn reclaim_groups(
     owner: &mut Owner,
     max: usize,
     freed: &mut usize,
@@ -128,7 +128,7 @@ pub(crate) fn reclaim(
     }
 }
 
-pub(crate) fn get(owner: &Owner, addr: u32, depth: u8, hop: &mut u32) -> i32
+pub(crate) fn get_hop(owner: &Owner, addr: u32, depth: u8, hop: &mut u32) -> i32
     ensures { AsksAtRest (GetsFrom addr depth hop.old hop.new) (hop.new ≡ hop.old) owner.now result }
 {
     let Stage::AtRest(running) = &owner.stage else {
@@ -206,7 +206,7 @@ pub(crate) fn put_back(owner: &mut Owner, reader: Reader) -> i32
     0
 }
 
-pub(crate) fn online(reader: &mut Reader) -> i32
+pub(crate) fn go_online(reader: &mut Reader) -> i32
     ensures { GoesOnline reader.old result reader.new }
 {
     if reader.is_online() {
@@ -216,7 +216,7 @@ pub(crate) fn online(reader: &mut Reader) -> i32
     0
 }
 
-pub(crate) fn offline(reader: &mut Reader) -> i32
+pub(crate) fn go_offline(reader: &mut Reader) -> i32
     ensures { GoesOffline reader.old result reader.new }
 {
     if !reader.is_online() {
@@ -227,7 +227,7 @@ pub(crate) fn offline(reader: &mut Reader) -> i32
 }
 
 #[inline]
-pub(crate) fn quiescent(reader: &mut Reader) -> i32
+pub(crate) fn quiesce(reader: &mut Reader) -> i32
     ensures { Quiesces reader.old result reader.new }
 {
     if !reader.is_online() {

@@ -23,7 +23,7 @@ pub extern "C" fn saxiko_proved_writer_open(
 ) -> i32
     ensures { Opens (config_of config.now config.now.readers) handle.old.kept result handle.new.kept }
 {
-    on_closed!(alloc, handle => running::open(alloc, config.with_readers(config.readers)))
+    on_closed!(alloc, handle => running::open_owner(alloc, config.with_readers(config.readers)))
 }
 
 /// Opens a running table with the rules of these routes in a closed handle. Of those of one prefix the last counts.
@@ -39,7 +39,7 @@ pub extern "C" fn saxiko_proved_writer_load(
     ensures { LoadsRunning (config_of config.now config.now.readers) routes.now bad.old bad.new
         handle.old.kept result handle.new.kept }
 {
-    on_closed!(alloc, handle => running::load(alloc, config.with_readers(config.readers), routes, bad))
+    on_closed!(alloc, handle => running::load_owner(alloc, config.with_readers(config.readers), routes, bad))
 }
 
 /// Frees the writer; the table is freed with the last handle of it.
@@ -61,7 +61,7 @@ pub extern "C" fn saxiko_proved_writer_add(
 ) -> i32
     ensures { Calls (AtRest (AddsTo addr depth hop) ⊤) ⊤ handle.old.kept result handle.new.kept }
 {
-    on_open!(alloc, handle, owner => running::add(&mut owner, addr, depth, hop))
+    on_open!(alloc, handle, owner => running::add_rule(&mut owner, addr, depth, hop))
 }
 
 /// Deletes the rule of a prefix, and stores the next hop that it had.
@@ -76,7 +76,7 @@ pub extern "C" fn saxiko_proved_writer_delete(
     ensures { Calls (AtRest (DeletesFrom addr depth hop.old hop.new) (hop.new ≡ hop.old))
         (hop.new ≡ hop.old) handle.old.kept result handle.new.kept }
 {
-    on_open!(alloc, handle, owner => running::delete(&mut owner, addr, depth, hop))
+    on_open!(alloc, handle, owner => running::delete_rule(&mut owner, addr, depth, hop))
 }
 
 /// Deletes all rules, and stores how many there were.
@@ -89,7 +89,7 @@ pub extern "C" fn saxiko_proved_writer_flush(
     ensures { Calls (AtRest (Flushes rules.old rules.new) (rules.new ≡ rules.old))
         (rules.new ≡ rules.old) handle.old.kept result handle.new.kept }
 {
-    on_open!(alloc, handle, owner => running::flush(&mut owner, rules))
+    on_open!(alloc, handle, owner => running::flush_rules(&mut owner, rules))
 }
 
 /// Frees at most `max` groups that wait, the oldest first, and stores how many; it is 1 where a reader holds
@@ -106,7 +106,7 @@ pub extern "C" fn saxiko_proved_writer_reclaim(
         Calls (AtRest (FreesHeld max freed.new held.old held.new) unchanged) unchanged
         handle.old.kept result handle.new.kept }
 {
-    on_open!(alloc, handle, owner => running::reclaim(&mut owner, max, freed, held))
+    on_open!(alloc, handle, owner => running::reclaim_groups(&mut owner, max, freed, held))
 }
 
 /// Stores the next hop of the rule of this very prefix.
@@ -122,7 +122,7 @@ pub extern "C" fn saxiko_proved_writer_get(
         (hop.new ≡ hop.old) handle.old.kept result }
     ensures same { handle.new.kept ≡ handle.old.kept }
 {
-    on_open!(alloc, handle, owner => running::get(&owner, addr, depth, hop))
+    on_open!(alloc, handle, owner => running::get_hop(&owner, addr, depth, hop))
 }
 
 /// Stores how many rules, versions and groups there are, and the token.
@@ -195,7 +195,7 @@ pub extern "C" fn saxiko_proved_reader_close(alloc: Global, handle: &mut SaxikoR
 pub extern "C" fn saxiko_proved_reader_online(alloc: Global, handle: &mut SaxikoReader) -> i32
     ensures { Calls GoesOnline ⊤ handle.old.kept result handle.new.kept }
 {
-    on_open!(alloc, handle, reader => running::online(&mut reader))
+    on_open!(alloc, handle, reader => running::go_online(&mut reader))
 }
 
 /// The reader goes offline.
@@ -203,7 +203,7 @@ pub extern "C" fn saxiko_proved_reader_online(alloc: Global, handle: &mut Saxiko
 pub extern "C" fn saxiko_proved_reader_offline(alloc: Global, handle: &mut SaxikoReader) -> i32
     ensures { Calls GoesOffline ⊤ handle.old.kept result handle.new.kept }
 {
-    on_open!(alloc, handle, reader => running::offline(&mut reader))
+    on_open!(alloc, handle, reader => running::go_offline(&mut reader))
 }
 
 /// The reader holds nothing that it looked up before.
@@ -211,7 +211,7 @@ pub extern "C" fn saxiko_proved_reader_offline(alloc: Global, handle: &mut Saxik
 pub extern "C" fn saxiko_proved_reader_quiescent(alloc: Global, handle: &mut SaxikoReader) -> i32
     ensures { Calls Quiesces ⊤ handle.old.kept result handle.new.kept }
 {
-    on_open!(alloc, handle, reader => running::quiescent(&mut reader))
+    on_open!(alloc, handle, reader => running::quiesce(&mut reader))
 }
 
 /// Stores the next hop of the longest rule that covers the address.

@@ -21,7 +21,7 @@ pub extern "C" fn saxiko_proved_table_open(
 ) -> i32
     ensures { Opens (config_of config.now 0) handle.old.kept result handle.new.kept }
 {
-    on_closed!(alloc, handle => table::open(alloc, config.with_readers(0)))
+    on_closed!(alloc, handle => table::open_table(alloc, config.with_readers(0)))
 }
 
 /// Opens a table with the rules of these routes in a closed handle. Of those of one prefix the last counts.
@@ -37,7 +37,7 @@ pub extern "C" fn saxiko_proved_table_load(
     ensures { Loads (config_of config.now 0) routes.now bad.old bad.new handle.old.kept result
         handle.new.kept }
 {
-    on_closed!(alloc, handle => loading::load(alloc, config.with_readers(0), routes, bad))
+    on_closed!(alloc, handle => loading::load_table(alloc, config.with_readers(0), routes, bad))
 }
 
 /// Frees the table; a closed handle stays closed.
@@ -59,7 +59,7 @@ pub extern "C" fn saxiko_proved_table_add(
 ) -> i32
     ensures { Calls (AddsRule addr depth hop) ⊤ handle.old.kept result handle.new.kept }
 {
-    on_open!(alloc, handle, fib => table::add(&mut fib, addr, depth, hop))
+    on_open!(alloc, handle, fib => table::add_rule(&mut fib, addr, depth, hop))
 }
 
 /// Deletes the rule of a prefix, and stores the next hop that it had.
@@ -74,7 +74,7 @@ pub extern "C" fn saxiko_proved_table_delete(
     ensures { Calls (DeletesRule addr depth hop.old hop.new) (hop.new ≡ hop.old)
         handle.old.kept result handle.new.kept }
 {
-    on_open!(alloc, handle, fib => table::delete(&mut fib, addr, depth, hop))
+    on_open!(alloc, handle, fib => table::delete_rule(&mut fib, addr, depth, hop))
 }
 
 /// Deletes all rules, and stores how many there were.
@@ -87,7 +87,7 @@ pub extern "C" fn saxiko_proved_table_flush(
     ensures { Calls (FlushesRules rules.old rules.new) (rules.new ≡ rules.old)
         handle.old.kept result handle.new.kept }
 {
-    on_open!(alloc, handle, fib => table::flush(&mut fib, rules))
+    on_open!(alloc, handle, fib => table::flush_rules(&mut fib, rules))
 }
 
 /// Frees at most `max` groups that wait, the oldest first, and stores how many.
@@ -101,7 +101,7 @@ pub extern "C" fn saxiko_proved_table_reclaim(
     ensures { Calls (FreesGroups max freed.new) (freed.new ≡ freed.old)
         handle.old.kept result handle.new.kept }
 {
-    on_open!(alloc, handle, fib => table::reclaim(&mut fib, max, freed))
+    on_open!(alloc, handle, fib => table::reclaim_groups(&mut fib, max, freed))
 }
 
 /// Stores the next hop of the longest rule that covers the address.
@@ -115,7 +115,7 @@ pub extern "C" fn saxiko_proved_table_lookup(
     ensures found { Asks (Finds addr hop.old hop.new) (hop.new ≡ hop.old) handle.old.kept result }
     ensures same { handle.new.kept ≡ handle.old.kept }
 {
-    on_open!(alloc, handle, fib => table::lookup(&fib, addr, hop))
+    on_open!(alloc, handle, fib => table::find(&fib, addr, hop))
 }
 
 /// Stores the next hops of many addresses, with `default` where no rule covers one.
@@ -146,7 +146,7 @@ pub extern "C" fn saxiko_proved_table_get(
     ensures found { Asks (Gets addr depth hop.old hop.new) (hop.new ≡ hop.old) handle.old.kept result }
     ensures same { handle.new.kept ≡ handle.old.kept }
 {
-    on_open!(alloc, handle, fib => table::get(&fib, addr, depth, hop))
+    on_open!(alloc, handle, fib => table::get_hop(&fib, addr, depth, hop))
 }
 
 /// Stores how many rules, versions and groups there are, and the token.

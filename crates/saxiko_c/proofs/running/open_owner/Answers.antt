@@ -2,7 +2,7 @@ use Rattle.std.proofs.Common.{◌∙◌, refl, sym, subst}
 use Rattle.std.proofs.lemmas.Result.{MatchResult-weaker}
 use Rattle.saxiko_c.specs.Running.{IsOpened}
 use Rattle.saxiko_c.proofs.Options.{unopened}
-use Rattle.saxiko_c.proofs.running.open.Goals as goal
+use Rattle.saxiko_c.proofs.running.open_owner.Goals as goal
 
 pub returns-in-Ok : goal.returns-in-Ok
 returns-in-Ok c =

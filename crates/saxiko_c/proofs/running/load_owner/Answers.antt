@@ -8,7 +8,7 @@ use Rattle.shared_fib.specs.Passes.{IsFullBench}
 use Rattle.shared_fib.specs.Running.{initial_writer}
 use Rattle.saxiko_c.specs.Loads.{IsOpenedWith}
 use Rattle.saxiko_c.proofs.Options.{at_some}
-use Rattle.saxiko_c.proofs.running.load.Goals as goal
+use Rattle.saxiko_c.proofs.running.load_owner.Goals as goal
 
 pub returns-in-Ok-Some : goal.returns-in-Ok-Some
 returns-in-Ok-Some c =
