@@ -1,5 +1,6 @@
 //! Two pieces that must see each other, so that they run at once.
 
+use bulk::Gate;
 use std::sync::atomic::{AtomicBool, Ordering};
 
 // How often a call looks for the other piece, before it notes that it missed it.
@@ -40,16 +41,6 @@ impl Meeting {
         }
     }
 
-    /// Waits, before the address `i` of this piece, for the other piece to come there.
-    pub fn at(&self, piece: usize, i: usize) {
-        if piece < 2 && i < 4 {
-            let flags = &self.flags;
-            self.meet(&flags[4 * piece + i], &flags[4 * (1 - piece) + i]);
-        } else {
-            self.is_missed.store(true, Ordering::SeqCst);
-        }
-    }
-
     /// Whether each call was made, and none of them missed the other piece.
     pub fn is_kept(&self) -> bool {
         for flag in &self.flags {
@@ -58,5 +49,16 @@ impl Meeting {
             }
         }
         !self.is_missed.load(Ordering::SeqCst)
+    }
+}
+
+impl Gate for Meeting {
+    fn at(&self, piece: usize, i: usize) {
+        if piece < 2 && i < 4 {
+            let flags = &self.flags;
+            self.meet(&flags[4 * piece + i], &flags[4 * (1 - piece) + i]);
+        } else {
+            self.is_missed.store(true, Ordering::SeqCst);
+        }
     }
 }

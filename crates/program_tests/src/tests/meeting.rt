@@ -4,19 +4,8 @@ ghost use Rattle.lpm_limits.specs.Limits.{IsConfig};
 
 use super::asserting::assert_at;
 use super::known::{assert_wrote, known_apply, known_lookup, known_storm};
-use bulk::Gate;
 use lpm_limits::Config;
 use test_support::Meeting;
-
-// Two pieces of four addresses, each of which waits before each address for the other one.
-#[derive(Drop)]
-struct Waiting(Meeting);
-
-impl Gate for Waiting {
-    fn at(&self, piece: usize, i: usize) {
-        self.0.at(piece, i);
-    }
-}
 
 const ROUTES: &str = "10.0.0.0/8 1\n";
 
@@ -42,24 +31,24 @@ fn two_workers() -> Config
 
 #[test]
 fn two_pieces_see_each_other(rt: HostRuntime) {
-    let gate = Waiting(Meeting::new());
+    let gate = Meeting::new();
     let (alloc, config) = (rt.alloc(), two_workers());
     let mut out = Vec::new(alloc);
     let is_done = known_lookup(&rt, alloc, ROUTES, ADDRESSES, config, &gate, &mut out);
     assert_wrote(&rt, is_done, &out, TEXT);
-    assert_at(&rt, "met", gate.0.is_kept(), true);
+    assert_at(&rt, "met", gate.is_kept(), true);
 }
 
 #[test]
 fn two_pieces_after_updates_see_each_other(rt: HostRuntime) {
-    let gate = Waiting(Meeting::new());
+    let gate = Meeting::new();
     let (alloc, config) = (rt.alloc(), two_workers());
     let mut out = Vec::new(alloc);
     let is_done = known_apply(
         &rt, alloc, ROUTES, UPDATES, ADDRESSES, config, &gate, &mut out,
     );
     assert_wrote(&rt, is_done, &out, TEXT_AFTER_UPDATES);
-    assert_at(&rt, "met", gate.0.is_kept(), true);
+    assert_at(&rt, "met", gate.is_kept(), true);
 }
 
 const FOUR_ADDRESSES: &str = "10.0.0.1\n10.0.0.2\n11.0.0.1\n12.0.0.1\n";
@@ -73,7 +62,7 @@ const STORM_TEXT: &str = "answers 4\nrefused 0\nwrong 0\n\
 // The worker is piece 0 of the gate, and the writer piece 1.
 #[test]
 fn storm_threads_meet(rt: HostRuntime) {
-    let gate = Waiting(Meeting::new());
+    let gate = Meeting::new();
     let (alloc, config) = (rt.alloc(), Config::default());
     let mut out = Vec::new(alloc);
     let is_done = known_storm(
@@ -88,5 +77,5 @@ fn storm_threads_meet(rt: HostRuntime) {
         &mut out,
     );
     assert_wrote(&rt, is_done, &out, STORM_TEXT);
-    assert_at(&rt, "met", gate.0.is_kept(), true);
+    assert_at(&rt, "met", gate.is_kept(), true);
 }

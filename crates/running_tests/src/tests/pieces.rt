@@ -5,7 +5,7 @@ ghost use Rattle.shared_fib.specs.Passes.{IsFullBench};
 
 use super::asserting::assert_at;
 use super::changing::{Ipv4Table, Ipv4Writer, SmallTable, SmallWriter};
-use bulk::{BulkError, Desk, Gate, Open, bulk, bulk_plain, piece_start, seat_all};
+use bulk::{BulkError, Desk, Open, bulk, bulk_plain, piece_start, seat_all};
 use fib::Fib;
 use lpm_bits::Hop;
 use lpm_limits::{Config, Refusal};
@@ -181,25 +181,15 @@ fn no_addresses_and_no_workers(rt: HostRuntime) {
     assert_nothing(&rt, rt.alloc(), &fib);
 }
 
-// Two pieces of four addresses, each of which waits before each address for the other one.
-#[derive(Drop)]
-struct Waiting(Meeting);
-
-impl Gate for Waiting {
-    fn at(&self, piece: usize, i: usize) {
-        self.0.at(piece, i);
-    }
-}
-
 static EIGHT: [u32; 8] = [1, 2, 3, 4, 5, 6, 7, 8];
 
 // Two pieces of eight addresses, by a table of one thread.
 fn meet_by_a_table<R: Abort + Threads + Sync>(rt: &R, alloc: Global, fib: &Fib<4, 4>) {
-    let gate = Waiting(Meeting::new());
+    let gate = Meeting::new();
     let answered = bulk_plain(rt, alloc, fib, 2, &EIGHT, &gate);
     let answers = answered.expect(rt, "answers").len();
     assert_at(rt, "answers", answers, EIGHT.len());
-    assert_at(rt, "met", gate.0.is_kept(), true);
+    assert_at(rt, "met", gate.is_kept(), true);
 }
 
 #[test]
@@ -220,11 +210,11 @@ fn meet_at_desks<R: Abort + Threads + Sync>(
     requires desks { All (IsDeskOf table.now) desks.old }
     ensures own { writer.new.identity ≡ writer.old.identity }
 {
-    let gate = Waiting(Meeting::new());
+    let gate = Meeting::new();
     let answered = bulk(rt, alloc, table, writer, desks, &EIGHT, &gate);
     let answers = answered.expect(rt, "answers").len();
     assert_at(rt, "answers", answers, EIGHT.len());
-    assert_at(rt, "met", gate.0.is_kept(), true);
+    assert_at(rt, "met", gate.is_kept(), true);
 }
 
 fn assert_no_desks<R: Abort + Threads + Sync>(
