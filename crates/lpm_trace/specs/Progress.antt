@@ -107,7 +107,7 @@ pub record IsOldest (w : TableState) (token : ℕ) : Type 0 where
   pub least : (other t : ℕ) → w.groups other ≡ Retired t → (t ≤ w.passed) ⊎ (token ≤ t)
   pub before : IsUpdating w → token < w.token
 
--- the worker that a check of the token asks next
+-- the worker whose counter a check of the token loads next
 abbrev pub next_loaded : TableState → ℕ → ℕ
 next_loaded w token = cond (eqb w.scan.token token) w.scan.next 0
 

@@ -76,7 +76,7 @@ pub record MayReclaim (c : InitialState) (steps : List WriterStep) (items : List
   -- the group that was just retired isn't among them
   pub before : IsUpdating (state_after c steps) → AreBelow (state_after c steps).token items
 
--- the workers may be asked for the token, the first of them first
+-- the workers' counters may be loaded in a check of the token, that of the first worker first
 abbrev pub MayLoadCounters : InitialState → List WriterStep → ℕ → Type 0
 MayLoadCounters c steps token = 0 < c.workers → (counter : ℕ) → MayStep c steps (LoadCounter token 0 counter)
 

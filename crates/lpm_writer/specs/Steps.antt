@@ -17,7 +17,7 @@ Loads zero x token z = z ≡ x
 Loads (suc n) x token z = (y : List WriterStep) × (counter : ℕ) × Loads n x token y
     × (lets_pass token counter ≡ true) × (z ≡ LoadCounter token n counter ∷ y)
 
--- the workers were asked one after another: all let the token pass, or the first that didn't stopped
+-- the workers' counters were loaded one after another: all let the token pass, or the first that didn't stopped
 -- the check
 abbrev pub LoadsCounters : ℕ → List WriterStep → ℕ → Result (Unit {0}) Busy → List WriterStep → Type 0
 LoadsCounters workers x token (Ok passed) z = Loads workers x token z
@@ -26,7 +26,7 @@ LoadsCounters workers x token (Err busy) z = (y : List WriterStep) × Loads busy
     × (z ≡ LoadCounter token busy.worker busy.counter ∷ y)
 
 -- a check of a token: one that isn't above the greatest that has passed passes without a load, and for
--- any other the workers are asked
+-- any other the counters are loaded
 abbrev pub Checks : ℕ → List WriterStep → ℕ → Result (Unit {0}) Busy → List WriterStep → Type 0
 Checks workers x token result z =
     ((token ≤ passed_after workers x) × (result ≡ Ok tt) × (z ≡ x))

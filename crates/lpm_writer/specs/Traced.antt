@@ -30,7 +30,7 @@ Loads does zero x token z = z ≡ x
 Loads {M} does (suc n) x token z = (y : WithSteps M) × (counter : ℕ) × Loads does n x token y
     × (lets_pass token counter ≡ true) × Goes does y (LoadCounter token n counter) z
 
--- the workers were asked one after another: all let the token pass, or the first that didn't stopped
+-- the workers' counters were loaded one after another: all let the token pass, or the first that didn't stopped
 -- the check
 abbrev pub LoadsCounters : {M : Type 0} → (M → WriterStep → M → Type 0) → ℕ → WithSteps M → ℕ
     → Result (Unit {0}) Busy → WithSteps M → Type 0
@@ -40,7 +40,7 @@ LoadsCounters {M} does workers x token (Err busy) z = (y : WithSteps M) × Loads
     × Goes does y (LoadCounter token busy.worker busy.counter) z
 
 -- a check of a token: one that isn't above the greatest that has passed passes without a load, and for
--- any other the workers are asked
+-- any other the counters are loaded
 abbrev pub Checks : {M : Type 0} → (M → WriterStep → M → Type 0) → InitialState → WithSteps M → ℕ
     → Result (Unit {0}) Busy → WithSteps M → Type 0
 Checks does c x token result z =

@@ -12,7 +12,8 @@ pub shared_follows : (m : LentSeat) (s : WriterStep) (z : LentSeat) (c : Initial
     → SharedDoes s m z → SharedDid m c steps → MayStep c steps s → SharedDid z c (s ∷ steps)
 shared_follows m s z c steps does did may = record {
   initial = did.initial ∙ ap (λ (v : View). initial_state_of v.initial) (sym does.view);
-  steps_are = ap (λ (l : List WriterStep). s ∷ l) did.steps_are ∙ ap (λ (v : View). v.writer_steps) (sym does.view);
+  steps_are = ap (λ (l : List WriterStep). s ∷ l) did.steps_are
+      ∙ ap (λ (v : View). v.writer_steps) (sym does.view);
   written = (may, did.written);
 }
 

@@ -44,8 +44,8 @@ impl<'a, const FIRST: u32, const SECOND: u32> SharedMemory<'a, FIRST, SECOND> {
         seat: &'a mut WriterSeat,
     ) -> SharedMemory<'a, FIRST, SECOND>
         requires own { IsOf table.now seat.old.table seat.old.view }
-        requires token { (state_after (initial_state_of seat.old.view.initial) seat.old.view.writer_steps).token
-            ≤ 2 ^ 62 }
+        requires token { (state_after (initial_state_of seat.old.view.initial)
+            seat.old.view.writer_steps).token ≤ 2 ^ 62 }
         requires updates { updates_begun_in (state_after (initial_state_of seat.old.view.initial)
             seat.old.view.writer_steps) ≤ 2 ^ 61 }
         ensures name { result.name ≡ seat.entry.ghost_name }

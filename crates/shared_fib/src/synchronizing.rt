@@ -25,9 +25,10 @@ fn check_until_passed<const FIRST: u32, const SECOND: u32, R: Wait>(
     control: &mut ControlState<FIRST, SECOND>,
     memory: &mut SharedMemory<'_, FIRST, SECOND>,
 )
-    requires did { SharedDid memory.old (initial_state_of memory.old.view.initial) memory.old.view.writer_steps }
-    requires waits { IsWaiting FIRST SECOND (initial_state_of memory.old.view.initial) memory.old.view.writer_steps
-        control.old.config control.old.rules control.old.pool control.old.versions }
+    requires did { SharedDid memory.old (initial_state_of memory.old.view.initial)
+        memory.old.view.writer_steps }
+    requires waits { IsWaiting FIRST SECOND (initial_state_of memory.old.view.initial)
+        memory.old.view.writer_steps control.old.config control.old.rules control.old.pool control.old.versions }
     ensures passes { PassesAtLast (initial_state_of memory.old.view.initial) memory.old.view.writer_steps
         memory.new.view.writer_steps }
     ensures queued { 0 < control.old.config.workers
@@ -56,7 +57,8 @@ fn synchronize_over<const FIRST: u32, const SECOND: u32, R: Wait>(
     control: &mut ControlState<FIRST, SECOND>,
     memory: &mut SharedMemory<'_, FIRST, SECOND>,
 ) -> Result<(), Exhausted>
-    requires did { SharedDid memory.old (initial_state_of memory.old.view.initial) memory.old.view.writer_steps }
+    requires did { SharedDid memory.old (initial_state_of memory.old.view.initial)
+        memory.old.view.writer_steps }
     requires rests { Rests (initial_state_of memory.old.view.initial) memory.old.view.writer_steps
         control.old }
     ensures exhausted { IsErr result

@@ -32,7 +32,7 @@ Sits o steps seating seat v (Worker k) = (seat ≡ seating.seat_of k) × (v.init
     × (k < seating.made) × (v.own_steps ≡ own_steps k steps)
 Sits o steps seating seat v Note = ⊤
 
--- and what it has seen and was told is a beginning of the writer's steps
+-- and what it has seen and heard of is a beginning of the writer's steps
 pub record IsViewOf (o : InitialData) (steps : List TraceStep) (seating : Seating) (seat : ℕ) (v : View)
     : Type 0 where
   pub sits : Sits o steps seating seat v v.role
@@ -93,6 +93,6 @@ read_note = record {
   heard = [];
 }
 
--- a seat was told what the note says
+-- a seat has heard what the note says
 abbrev pub view_with_note : View → View → View
 view_with_note v note = record v { heard = note.writer_steps }

@@ -84,7 +84,7 @@ abbrev pub coded_writer : Coded WriterAt
 coded_writer = code_by (TableId × View) (coded× table_id_coded view_row.the_row.coded)
     (λ s. (s.table, s.view)) (λ p. record { table = p.0; view = p.1 }) (λ _. refl)
 
--- it is the writer's seat, was told of nothing and keeps nothing of its own, and its steps are lawful
+-- it is the writer's seat, has heard of nothing and keeps nothing of its own, and its steps are lawful
 pub record IsWriterSeat (me : Me (Unit {0}) View) : Type 0 where
   pub alone : me.1 ≡ []
   pub role : me.0.role ≡ AsWriter
@@ -110,7 +110,8 @@ WriterLooks s me x me' = (me' ≡ me) × IsFoundAt me.0.initial me.0.writer_step
 -- is legal
 pub record IsSound (v : View) : Type 0 where
   pub written : IsWritten (initial_state_of v.initial) v.writer_steps
-  pub words : IsWords v.initial.first v.initial.second (state_after (initial_state_of v.initial) v.writer_steps).words
+  pub words : IsWords v.initial.first v.initial.second
+      (state_after (initial_state_of v.initial) v.writer_steps).words
   pub rising : AllPairs (λ later earlier. earlier.1 ≤ later.1) v.own_steps
   pub within : All (λ step. step.1 ≤ length v.writer_steps) v.own_steps
   pub placed : ArePlaced (initial_state_of v.initial) v.writer_steps v.own_steps
@@ -161,6 +162,6 @@ IsSecondAt second j (Answered a h f l ∷ rest) = IsSecondAt second j rest
 
 -- ---- both
 
--- the seat was told of nothing but steps that the writer made, and forgets them
+-- the seat has heard of nothing but steps that the writer made, and forgets them
 abbrev pub SeatCompares : Step (Unit {0}) → Me (Unit {0}) View → ℕ → Me (Unit {0}) View → Type 0
 SeatCompares s me x me' = (me' ≡ (record me.0 { heard = [] }, me.1)) × IsLater me.0.heard me.0.writer_steps

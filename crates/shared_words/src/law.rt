@@ -99,7 +99,7 @@ impl Play<(), View> for Looks {
     ghost then = { WriterLooks };
 }
 
-/// The writer compares what it was told with its own steps, which is no step.
+/// The writer compares what it has heard with its own steps, which is no step.
 pub struct Compares;
 
 impl Play<(), View> for Compares {
