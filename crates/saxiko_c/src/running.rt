@@ -60,7 +60,7 @@ pub(crate) fn load_owner(
     }
 }
 
-pub(crate) fn add_rule(owner: &mut Owner, addr: u32, depth: u8, hop: u32) -> i32
+pub(crate) fn add_by_writer(owner: &mut Owner, addr: u32, depth: u8, hop: u32) -> i32
     ensures { AtRest (AddsTo addr depth hop) ⊤ owner.old result owner.new }
 {
     let Stage::AtRest(running) = &mut owner.stage else {
@@ -72,7 +72,7 @@ pub(crate) fn add_rule(owner: &mut Owner, addr: u32, depth: u8, hop: u32) -> i32
     }
 }
 
-pub(crate) fn delete_rule(owner: &mut Owner, addr: u32, depth: u8, hop: &mut u32) -> i32
+pub(crate) fn delete_by_writer(owner: &mut Owner, addr: u32, depth: u8, hop: &mut u32) -> i32
     ensures { AtRest (DeletesFrom addr depth hop.old hop.new) (hop.new ≡ hop.old)
         owner.old result owner.new }
 {
@@ -85,7 +85,7 @@ pub(crate) fn delete_rule(owner: &mut Owner, addr: u32, depth: u8, hop: &mut u32
     }
 }
 
-pub(crate) fn flush_rules(owner: &mut Owner, rules: &mut usize) -> i32
+pub(crate) fn flush_by_writer(owner: &mut Owner, rules: &mut usize) -> i32
     ensures { AtRest (Flushes rules.old rules.new) (rules.new ≡ rules.old)
         owner.old result owner.new }
 {
@@ -102,7 +102,7 @@ pub(crate) fn flush_rules(owner: &mut Owner, rules: &mut usize) -> i32
 }
 
 /// Returns 1 where a reader holds the next group that waits.
-pub(crate) fn reclaim_groups(
+pub(crate) fn reclaim_by_writer(
     owner: &mut Owner,
     max: usize,
     freed: &mut usize,
@@ -128,7 +128,7 @@ pub(crate) fn reclaim_groups(
     }
 }
 
-pub(crate) fn get_hop(owner: &Owner, addr: u32, depth: u8, hop: &mut u32) -> i32
+pub(crate) fn get_by_writer(owner: &Owner, addr: u32, depth: u8, hop: &mut u32) -> i32
     ensures { AsksAtRest (GetsFrom addr depth hop.old hop.new) (hop.new ≡ hop.old) owner.now result }
 {
     let Stage::AtRest(running) = &owner.stage else {
@@ -163,7 +163,7 @@ fn count(running: &mut saxiko::Owner) -> SaxikoCounts
     }
 }
 
-pub(crate) fn counts(owner: &mut Owner, counts: &mut SaxikoCounts) -> i32
+pub(crate) fn store_counts(owner: &mut Owner, counts: &mut SaxikoCounts) -> i32
     ensures counted { AsksAtRest (Counts counts.new) (counts.new ≡ counts.old) owner.old result }
     ensures same { owner.new ≡ owner.old }
 {
@@ -238,7 +238,7 @@ pub(crate) fn quiesce(reader: &mut Reader) -> i32
 }
 
 #[inline]
-fn find(reader: &mut Reader, addr: u32, hop: &mut u32) -> i32
+fn find_online(reader: &mut Reader, addr: u32, hop: &mut u32) -> i32
     requires online { reader.old.online ≡ true }
     ensures { Finds addr hop.old hop.new reader.old result reader.new }
 {
@@ -252,13 +252,13 @@ fn find(reader: &mut Reader, addr: u32, hop: &mut u32) -> i32
 }
 
 #[inline]
-pub(crate) fn lookup(reader: &mut Reader, addr: u32, hop: &mut u32) -> i32
+pub(crate) fn find_hop(reader: &mut Reader, addr: u32, hop: &mut u32) -> i32
     ensures { FindsIn addr hop.old hop.new reader.old result reader.new }
 {
     if !reader.is_online() {
         return EPERM;
     }
-    find(reader, addr, hop)
+    find_online(reader, addr, hop)
 }
 
 /// Stores the next hop, and the versions that the answer lies between.

@@ -61,7 +61,7 @@ pub extern "C" fn saxiko_proved_writer_add(
 ) -> i32
     ensures { Calls (AtRest (AddsTo addr depth hop) ⊤) ⊤ handle.old.kept result handle.new.kept }
 {
-    on_open!(alloc, handle, owner => running::add_rule(&mut owner, addr, depth, hop))
+    on_open!(alloc, handle, owner => running::add_by_writer(&mut owner, addr, depth, hop))
 }
 
 /// Deletes the rule of a prefix, and stores the next hop that it had.
@@ -76,7 +76,7 @@ pub extern "C" fn saxiko_proved_writer_delete(
     ensures { Calls (AtRest (DeletesFrom addr depth hop.old hop.new) (hop.new ≡ hop.old))
         (hop.new ≡ hop.old) handle.old.kept result handle.new.kept }
 {
-    on_open!(alloc, handle, owner => running::delete_rule(&mut owner, addr, depth, hop))
+    on_open!(alloc, handle, owner => running::delete_by_writer(&mut owner, addr, depth, hop))
 }
 
 /// Deletes all rules, and stores how many there were.
@@ -89,7 +89,7 @@ pub extern "C" fn saxiko_proved_writer_flush(
     ensures { Calls (AtRest (Flushes rules.old rules.new) (rules.new ≡ rules.old))
         (rules.new ≡ rules.old) handle.old.kept result handle.new.kept }
 {
-    on_open!(alloc, handle, owner => running::flush_rules(&mut owner, rules))
+    on_open!(alloc, handle, owner => running::flush_by_writer(&mut owner, rules))
 }
 
 /// Frees at most `max` groups that wait, the oldest first, and stores how many; it is 1 where a reader holds
@@ -106,7 +106,7 @@ pub extern "C" fn saxiko_proved_writer_reclaim(
         Calls (AtRest (FreesHeld max freed.new held.old held.new) unchanged) unchanged
         handle.old.kept result handle.new.kept }
 {
-    on_open!(alloc, handle, owner => running::reclaim_groups(&mut owner, max, freed, held))
+    on_open!(alloc, handle, owner => running::reclaim_by_writer(&mut owner, max, freed, held))
 }
 
 /// Stores the next hop of the rule of this very prefix.
@@ -122,7 +122,7 @@ pub extern "C" fn saxiko_proved_writer_get(
         (hop.new ≡ hop.old) handle.old.kept result }
     ensures same { handle.new.kept ≡ handle.old.kept }
 {
-    on_open!(alloc, handle, owner => running::get_hop(&owner, addr, depth, hop))
+    on_open!(alloc, handle, owner => running::get_by_writer(&owner, addr, depth, hop))
 }
 
 /// Stores how many rules, versions and groups there are, and the token.
@@ -136,7 +136,7 @@ pub extern "C" fn saxiko_proved_writer_counts(
         (counts.new ≡ counts.old) handle.old.kept result }
     ensures same { handle.new.kept ≡ handle.old.kept }
 {
-    on_open!(alloc, handle, owner => running::counts(&mut owner, counts))
+    on_open!(alloc, handle, owner => running::store_counts(&mut owner, counts))
 }
 
 /// Hands the reader of this number out in a closed handle; it is offline.
@@ -225,7 +225,7 @@ pub extern "C" fn saxiko_proved_reader_lookup(
     ensures { Calls (FindsIn addr hop.old hop.new) (hop.new ≡ hop.old) handle.old.kept result
         handle.new.kept }
 {
-    on_open!(alloc, handle, reader => running::lookup(&mut reader, addr, hop))
+    on_open!(alloc, handle, reader => running::find_hop(&mut reader, addr, hop))
 }
 
 /// Stores the next hop of the longest rule that covers the address, and the versions that it lies between.

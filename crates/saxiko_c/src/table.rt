@@ -26,7 +26,7 @@ pub(crate) fn open_table(alloc: Global, config: Config) -> Result<Box<Fib<24, 8>
     }
 }
 
-pub(crate) fn add_rule(fib: &mut Fib<24, 8>, addr: u32, depth: u8, hop: u32) -> i32
+pub(crate) fn add_in_table(fib: &mut Fib<24, 8>, addr: u32, depth: u8, hop: u32) -> i32
     ensures { AddsRule addr depth hop fib.old result fib.new }
 {
     match (Prefix::new(addr, u32::from(depth)), Hop::new(hop)) {
@@ -49,7 +49,7 @@ pub(crate) fn store_deleted(deleted: Result<Hop, Refusal>, hop: &mut u32) -> i32
     }
 }
 
-pub(crate) fn delete_rule(fib: &mut Fib<24, 8>, addr: u32, depth: u8, hop: &mut u32) -> i32
+pub(crate) fn delete_in_table(fib: &mut Fib<24, 8>, addr: u32, depth: u8, hop: &mut u32) -> i32
     ensures { DeletesRule addr depth hop.old hop.new fib.old result fib.new }
 {
     match Prefix::new(addr, u32::from(depth)) {
@@ -58,7 +58,7 @@ pub(crate) fn delete_rule(fib: &mut Fib<24, 8>, addr: u32, depth: u8, hop: &mut 
     }
 }
 
-pub(crate) fn flush_rules(fib: &mut Fib<24, 8>, rules: &mut usize) -> i32
+pub(crate) fn flush_table(fib: &mut Fib<24, 8>, rules: &mut usize) -> i32
     ensures { FlushesRules rules.old rules.new fib.old result fib.new }
 {
     match fib.flush() {
@@ -70,7 +70,7 @@ pub(crate) fn flush_rules(fib: &mut Fib<24, 8>, rules: &mut usize) -> i32
     }
 }
 
-pub(crate) fn reclaim_groups(fib: &mut Fib<24, 8>, max: usize, freed: &mut usize) -> i32
+pub(crate) fn reclaim_in_table(fib: &mut Fib<24, 8>, max: usize, freed: &mut usize) -> i32
     ensures { FreesGroups max freed.new fib.old result fib.new }
 {
     let reclaimed = fib.reclaim(max);
@@ -79,7 +79,7 @@ pub(crate) fn reclaim_groups(fib: &mut Fib<24, 8>, max: usize, freed: &mut usize
 }
 
 #[inline]
-pub(crate) fn find(fib: &Fib<24, 8>, addr: u32, hop: &mut u32) -> i32
+pub(crate) fn find_hop(fib: &Fib<24, 8>, addr: u32, hop: &mut u32) -> i32
     ensures { Finds addr hop.old hop.new fib.now result }
 {
     match fib.lookup(addr) {
@@ -91,7 +91,7 @@ pub(crate) fn find(fib: &Fib<24, 8>, addr: u32, hop: &mut u32) -> i32
     }
 }
 
-pub(crate) fn get_hop(fib: &Fib<24, 8>, addr: u32, depth: u8, hop: &mut u32) -> i32
+pub(crate) fn get_in_table(fib: &Fib<24, 8>, addr: u32, depth: u8, hop: &mut u32) -> i32
     ensures { Gets addr depth hop.old hop.new fib.now result }
 {
     match Prefix::new(addr, u32::from(depth)) {

@@ -59,7 +59,7 @@ pub extern "C" fn saxiko_proved_table_add(
 ) -> i32
     ensures { Calls (AddsRule addr depth hop) ⊤ handle.old.kept result handle.new.kept }
 {
-    on_open!(alloc, handle, fib => table::add_rule(&mut fib, addr, depth, hop))
+    on_open!(alloc, handle, fib => table::add_in_table(&mut fib, addr, depth, hop))
 }
 
 /// Deletes the rule of a prefix, and stores the next hop that it had.
@@ -74,7 +74,7 @@ pub extern "C" fn saxiko_proved_table_delete(
     ensures { Calls (DeletesRule addr depth hop.old hop.new) (hop.new ≡ hop.old)
         handle.old.kept result handle.new.kept }
 {
-    on_open!(alloc, handle, fib => table::delete_rule(&mut fib, addr, depth, hop))
+    on_open!(alloc, handle, fib => table::delete_in_table(&mut fib, addr, depth, hop))
 }
 
 /// Deletes all rules, and stores how many there were.
@@ -87,7 +87,7 @@ pub extern "C" fn saxiko_proved_table_flush(
     ensures { Calls (FlushesRules rules.old rules.new) (rules.new ≡ rules.old)
         handle.old.kept result handle.new.kept }
 {
-    on_open!(alloc, handle, fib => table::flush_rules(&mut fib, rules))
+    on_open!(alloc, handle, fib => table::flush_table(&mut fib, rules))
 }
 
 /// Frees at most `max` groups that wait, the oldest first, and stores how many.
@@ -101,7 +101,7 @@ pub extern "C" fn saxiko_proved_table_reclaim(
     ensures { Calls (FreesGroups max freed.new) (freed.new ≡ freed.old)
         handle.old.kept result handle.new.kept }
 {
-    on_open!(alloc, handle, fib => table::reclaim_groups(&mut fib, max, freed))
+    on_open!(alloc, handle, fib => table::reclaim_in_table(&mut fib, max, freed))
 }
 
 /// Stores the next hop of the longest rule that covers the address.
@@ -115,7 +115,7 @@ pub extern "C" fn saxiko_proved_table_lookup(
     ensures found { Asks (Finds addr hop.old hop.new) (hop.new ≡ hop.old) handle.old.kept result }
     ensures same { handle.new.kept ≡ handle.old.kept }
 {
-    on_open!(alloc, handle, fib => table::find(&fib, addr, hop))
+    on_open!(alloc, handle, fib => table::find_hop(&fib, addr, hop))
 }
 
 /// Stores the next hops of many addresses, with `default` where no rule covers one.
@@ -146,7 +146,7 @@ pub extern "C" fn saxiko_proved_table_get(
     ensures found { Asks (Gets addr depth hop.old hop.new) (hop.new ≡ hop.old) handle.old.kept result }
     ensures same { handle.new.kept ≡ handle.old.kept }
 {
-    on_open!(alloc, handle, fib => table::get_hop(&fib, addr, depth, hop))
+    on_open!(alloc, handle, fib => table::get_in_table(&fib, addr, depth, hop))
 }
 
 /// Stores how many rules, versions and groups there are, and the token.
