@@ -14,9 +14,9 @@ enum Standing {
     Waits(u64),
 }
 
-/// A check of a token asks this worker next.
+/// A check of a token loads the counter of this worker next.
 #[derive(Clone, Copy, PartialEq, Eq)]
-struct Ask {
+struct NextLoad {
     token: u64,
     worker: u64,
 }
@@ -29,7 +29,7 @@ enum NextStep {
     /// Raise the token, since its last step unlinked a group.
     Bump,
     /// Go on with a check.
-    Check(Ask),
+    Check(NextLoad),
 }
 
 /// How far the writer has come.
@@ -187,7 +187,7 @@ impl WriterProgress {
             NextStep::Nothing => {
                 if self.workers > 0 {
                     self.awaited = Some(token);
-                    self.next_step = NextStep::Check(Ask { token, worker: 0 });
+                    self.next_step = NextStep::Check(NextLoad { token, worker: 0 });
                 }
                 !updating
             }
@@ -207,11 +207,11 @@ impl WriterProgress {
         oldest
     }
 
-    /// What a check asks next, where this is the token: it goes on, or a reclaim begins one of the
+    /// What a check loads next, where this is the token: it goes on, or a reclaim begins one of the
     /// oldest token; in an update that is after an unlinking, and not of the group just unlinked.
-    fn next_ask(&self, updating: bool, token: u64) -> Option<Ask> {
+    fn next_load(&self, updating: bool, token: u64) -> Option<NextLoad> {
         match self.next_step {
-            NextStep::Check(ask) => Some(ask),
+            NextStep::Check(next) => Some(next),
             NextStep::Bump => None,
             NextStep::Nothing => {
                 let oldest = self.oldest_waiting()?;
@@ -219,19 +219,19 @@ impl WriterProgress {
                     return None;
                 }
                 let (token, worker) = (oldest, 0);
-                Some(Ask { token, worker })
+                Some(NextLoad { token, worker })
             }
         }
     }
 
     /// Moves on where a worker lets the token of a check pass.
-    fn pass(&mut self, ask: Ask) {
-        let worker = ask.worker.saturating_add(1);
+    fn pass(&mut self, next: NextLoad) {
+        let worker = next.worker.saturating_add(1);
         if worker < self.workers {
-            self.next_step = NextStep::Check(Ask { worker, ..ask });
+            self.next_step = NextStep::Check(NextLoad { worker, ..next });
             return;
         }
-        self.passed = self.passed.max(ask.token);
+        self.passed = self.passed.max(next.token);
         self.awaited = None;
         self.next_step = NextStep::Nothing;
     }
@@ -239,7 +239,7 @@ impl WriterProgress {
     /// Moves on where a worker stops a check: a synchronize checks again, and a reclaim ends.
     fn stop(&mut self) {
         match self.awaited {
-            Some(token) => self.next_step = NextStep::Check(Ask { token, worker: 0 }),
+            Some(token) => self.next_step = NextStep::Check(NextLoad { token, worker: 0 }),
             None => {
                 self.next_step = NextStep::Nothing;
                 self.reclaims = false;
@@ -256,14 +256,14 @@ impl WriterProgress {
         worker: u64,
         counter: u64,
     ) -> bool {
-        let Some(ask) = self.next_ask(updating, token) else {
+        let Some(next) = self.next_load(updating, token) else {
             return false;
         };
-        if counter == 0 || ask.token <= counter {
-            self.pass(ask);
+        if counter == 0 || next.token <= counter {
+            self.pass(next);
         } else {
             self.stop();
         }
-        ask.worker == worker
+        next.worker == worker
     }
 }
