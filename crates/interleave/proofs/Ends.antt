@@ -10,7 +10,8 @@ use Rattle.lpm_trace.specs.declared.step.WriterStep.{WriterStep}
 use Rattle.lpm_trace.specs.Trace.{writes, worker_of, IsTrace, worker_by_step, FinishedLookup}
 use Rattle.interleave.specs.World.{HasEnded as ActorHasEnded, IsScheduled, writer_items, IsInitial, IsPlayedOut, WorldDid, Reaches, scripts_and_schedule, WorldDoes}
 use Rattle.interleave.specs.View.{script_at, WorldView}
-use Rattle.lpm_writer.specs.Resting.{blank_state, IsResting}
+use Rattle.lpm_writer.specs.Commands.{Rests}
+use Rattle.lpm_writer.specs.Resting.{blank_state}
 use Rattle.interleave.specs.declared.trace.Trace.{Trace}
 use Rattle.interleave.specs.Runs.{StateBySteps, HasTokensLeft, Waits, Answers, AgreesWithSteps, state_by_steps, IsPerformed, IsRun, initial_state_by_steps, HaveComeOut, InitialStatesAreSettled, RunsAreLawful}
 use Rattle.std.proofs.lemmas.Bool.{cases_lt}
@@ -86,15 +87,12 @@ not_true : false ≡ true → ⊥
 not_true e = cc
 
 module _ (f s : ℕ) where
-  abbrev pub Rests : InitialState → List WriterStep → ControlState f s → Type 0
-  Rests c steps l = IsResting f s c steps l.config l.rules l.pool l.versions
-
   abbrev pub kept_in : ControlState f s → List WriterStep → StateBySteps
   kept_in l steps = state_by_steps l.rules steps l.pool l.versions
 
-  -- a control state that rests is at rest by the steps that it has made
-  pub at_rest : (c : InitialState) (steps : List WriterStep) (l : ControlState f s) → Rests c steps l → AgreesWithSteps f s c (kept_in l steps)
-  at_rest c steps l rests = record {
+  -- what a control state that rests keeps agrees with the steps that it has made
+  pub agrees : (c : InitialState) (steps : List WriterStep) (l : ControlState f s) → Rests c steps l → AgreesWithSteps f s c (kept_in l steps)
+  agrees c steps l rests = record {
     begun = rests.versions;
     rules = rests.version;
     represents = rests.represents;
@@ -167,7 +165,7 @@ module _ (f s : ℕ) where
             now.1,
             now.2,
             performed_more c f s l0.config n (kept_in l0 []) done replies (kept_in l h.0) change reply (kept_in l' now.0) h.3 (low c h.0 h.1) high
-                (subst (λ x. Answers c f s x (kept_in l h.0) change reply (kept_in l' now.0)) config now.3, at_rest c now.0 l' now.2),
+                (subst (λ x. Answers c f s x (kept_in l h.0) change reply (kept_in l' now.0)) config now.3, agrees c now.0 l' now.2),
           )
 
       pub ends_late : (reply : Reply) → HasCome y l change tries (Some reply) m' l' → IsLate m' true → HasEnded m0 l0 (done ++ change ∷ left) replies m'
@@ -178,7 +176,7 @@ module _ (f s : ℕ) where
             now.0,
             now.1,
             performed_within c f s l0.config n (kept_in l0 []) done left replies (kept_in l h.0) change now.0 h.3 (low c h.0 h.1) over
-                (inl (reply, kept_in l' now.0, (subst (λ x. Answers c f s x (kept_in l h.0) change reply (kept_in l' now.0)) config now.3, at_rest c now.0 l' now.2), refl)),
+                (inl (reply, kept_in l' now.0, (subst (λ x. Answers c f s x (kept_in l h.0) change reply (kept_in l' now.0)) config now.3, agrees c now.0 l' now.2), refl)),
           )
 
       pub ends_waiting : n ≤ tries → HasCome y l change tries None m' l' → HasEnded m0 l0 (done ++ change ∷ left) replies m'
@@ -259,8 +257,8 @@ traces_are_lawful c steps start trace = record {
   versions = λ a t u later. versions_never_fall c steps a t u later;
 }
 
-opening_rests : (f g : ℕ) (config : Config) → AgreesWithSteps f g (blank_state f g config) initial_state_by_steps
-opening_rests f g config = record {
+opening_agrees : (f g : ℕ) (config : Config) → AgreesWithSteps f g (blank_state f g config) initial_state_by_steps
+opening_agrees f g config = record {
   begun = refl;
   rules = refl;
   represents = (blank f g (config.groups * 2 ^ g) config.groups).0;
@@ -279,20 +277,20 @@ opening_rests f g config = record {
     not_retired token e = cc
 
 pub initial_states_are_settled : InitialStatesAreSettled
-initial_states_are_settled f g config limits = (settled f g config limits, opening_rests f g config)
+initial_states_are_settled f g config limits = (settled f g config limits, opening_agrees f g config)
 
--- from a table at rest, changes that came out leave one at rest
-last_rests : (c : InitialState) (f g : ℕ) (config : Config) (n : ℕ) (opening : StateBySteps) (log : List (Change f g × Reply)) (last : StateBySteps)
+-- changes that came out keep that agreement
+last_agrees : (c : InitialState) (f g : ℕ) (config : Config) (n : ℕ) (opening : StateBySteps) (log : List (Change f g × Reply)) (last : StateBySteps)
     → AgreesWithSteps f g c opening → HaveComeOut c f g config n opening log last → AgreesWithSteps f g c last
-last_rests c f g config n opening [] last rest h = subst (AgreesWithSteps f g c) (sym h) rest
-last_rests c f g config n opening (entry ∷ log) last rest h = h.4.1
+last_agrees c f g config n opening [] last rest h = subst (AgreesWithSteps f g c) (sym h) rest
+last_agrees c f g config n opening (entry ∷ log) last rest h = h.4.1
 
 pub runs_are_lawful : RunsAreLawful
 runs_are_lawful f g config script scripts schedule shown limits run =
     let c = blank_state f g config in (
       traces_are_lawful c run.steps (settled f g config limits) (older_trace c (map Writer run.beyond) run.steps run.trace.may_come),
       λ worker. ap (seen_of worker) run.shows_lookups ∙ seen_finished worker run.steps,
-      last_rests c f g config (writer_items schedule) initial_state_by_steps run.trace.performed.log run.trace.performed.last (opening_rests f g config) run.trace.performed.answered,
+      last_agrees c f g config (writer_items schedule) initial_state_by_steps run.trace.performed.log run.trace.performed.last (opening_agrees f g config) run.trace.performed.answered,
     )
 
 -- What no step of the writer changes: the scripts and the schedule.

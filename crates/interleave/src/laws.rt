@@ -10,7 +10,8 @@ pub fn traces_are_lawful()
     ensures { TracesAreLawful }
 {}
 
-/// A table that was just opened with limits in range is one that a trace may begin with, and is at rest.
+/// A table that was just opened with limits in range is one that a trace may begin with, and what its writer
+/// keeps agrees with its steps, of which there are none.
 pub fn initial_states_are_settled()
     ensures { InitialStatesAreSettled }
 {}

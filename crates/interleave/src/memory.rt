@@ -68,7 +68,7 @@ impl<'a, const FIRST: u32, const SECOND: u32> Memory for WorldMemory<'a, FIRST, 
 
     ghost second_stored = { λ m i w z sets. sets };
 
-    fn counters(&self) -> usize {
+    fn counter_count(&self) -> usize {
         self.scripts.len()
     }
 
@@ -87,7 +87,7 @@ impl<'a, const FIRST: u32, const SECOND: u32> Memory for WorldMemory<'a, FIRST, 
         self.bump_sequence();
     }
 
-    fn start(&mut self) -> u64 {
+    fn bump(&mut self) -> u64 {
         self.reach();
         self.shared.token += 1;
         let token = self.shared.token;

@@ -11,7 +11,7 @@ use Rattle.lpm_trace.specs.Writer.{progress_after, counter_found, Finds, WriterI
 use Rattle.lpm_trace.proofs.Traces.{tables_of}
 use Rattle.std.proofs.lemmas.Bool.Decides.{eqb_tells}
 use Rattle.std.proofs.lemmas.Bool.{cases_lt}
-use Rattle.lpm_trace.specs.Laws.{IsLoadedFor, IsChecked, PassedIsChecked, WordsAreEntries}
+use Rattle.lpm_trace.specs.Laws.{HasLetPass, IsChecked, PassedIsChecked, WordsAreEntries}
 use Rattle.lpm_trace.proofs.Versions.{by_number, token_is, passed_is, set_case}
 use Rattle.std.proofs.lemmas.List.{length-set}
 use Rattle.lpm_cells.specs.declared.entry.Entry.{Entry}
@@ -59,7 +59,7 @@ writer_goes_on c steps s trace may finds = (
   trace,
 )
 
-asked_still : (c : InitialState) (s : WriterStep) (ws : List WriterStep) (token k : ℕ) → IsLoadedFor c.token ws token k → IsLoadedFor c.token (s ∷ ws) token k
+asked_still : (c : InitialState) (s : WriterStep) (ws : List WriterStep) (token k : ℕ) → HasLetPass c.token ws token k → HasLetPass c.token (s ∷ ws) token k
 asked_still c s ws token k asked = record {
   newer = s ∷ asked.newer;
   older = asked.older;
@@ -69,13 +69,13 @@ asked_still c s ws token k asked = record {
   passes = asked.passes;
 }
 
-asked_now : (c : InitialState) (ws : List WriterStep) (token k counter : ℕ) → token ≤ (state_after c ws).token → lets_pass token counter ≡ true → IsLoadedFor c.token (LoadCounter token k counter ∷ ws) token k
+asked_now : (c : InitialState) (ws : List WriterStep) (token k counter : ℕ) → token ≤ (state_after c ws).token → lets_pass token counter ≡ true → HasLetPass c.token (LoadCounter token k counter ∷ ws) token k
 asked_now c ws token k counter le passes = record { newer = []; older = ws; counter = counter; split = refl; started = omega (arith, le, token_is c ws); passes = passes }
 
 -- the workers below the next one were asked in the check that runs, and the greatest token that has
 -- passed was checked
 record Asked (c : InitialState) (ws : List WriterStep) : Type 0 where
-  pub scanned : (k : ℕ) → k < (state_after c ws).scan.next → IsLoadedFor c.token ws (state_after c ws).scan.token k
+  pub scanned : (k : ℕ) → k < (state_after c ws).scan.next → HasLetPass c.token ws (state_after c ws).scan.token k
   pub passed : ((state_after c ws).passed ≡ 0) ⊎ IsChecked c.workers c.token ws (state_after c ws).passed
 
 checked_still : (c : InitialState) (s : WriterStep) (ws : List WriterStep) (token : ℕ) → IsChecked c.workers c.token ws token → IsChecked c.workers c.token (s ∷ ws) token
@@ -88,26 +88,26 @@ passed_still c s ws passed (inr h) = inr (checked_still c s ws passed h)
 -- a step that is no load of a counter
 asked_quiet : (c : InitialState) (s : WriterStep) (ws : List WriterStep) → Asked c ws → (state_after c (s ∷ ws)).scan ≡ (state_after c ws).scan → (state_after c (s ∷ ws)).passed ≡ (state_after c ws).passed → Asked c (s ∷ ws)
 asked_quiet c s ws asked scan passed = record {
-  scanned = subst (λ z. (k : ℕ) → k < z.next → IsLoadedFor c.token (s ∷ ws) z.token k) (sym scan) (λ k lt. asked_still c s ws (state_after c ws).scan.token k (asked.scanned k lt));
+  scanned = subst (λ z. (k : ℕ) → k < z.next → HasLetPass c.token (s ∷ ws) z.token k) (sym scan) (λ k lt. asked_still c s ws (state_after c ws).scan.token k (asked.scanned k lt));
   passed = subst (λ n. (n ≡ 0) ⊎ IsChecked c.workers c.token (s ∷ ws) n) (sym passed) (passed_still c s ws (state_after c ws).passed asked.passed);
 }
 
 scanned_more : (c : InitialState) (ws : List WriterStep) (token k0 counter : ℕ) → Asked c ws → token ≤ (state_after c ws).token → ((k0 ≡ 0) ⊎ (((state_after c ws).scan.next ≡ k0) × ((state_after c ws).scan.token ≡ token))) → lets_pass token counter ≡ true
-    → (k : ℕ) → k < suc k0 → IsLoadedFor c.token (LoadCounter token k0 counter ∷ ws) token k
+    → (k : ℕ) → k < suc k0 → HasLetPass c.token (LoadCounter token k0 counter ∷ ws) token k
 scanned_more c ws token k0 counter asked le next passes k lt =
     let s : WriterStep = LoadCounter token k0 counter in
     elim (eqb_tells k k0) [
-      | inl same ↦ subst (IsLoadedFor c.token (s ∷ ws) token) (sym same.1) (asked_now c ws token k0 counter le passes)
+      | inl same ↦ subst (HasLetPass c.token (s ∷ ws) token) (sym same.1) (asked_now c ws token k0 counter le passes)
       | inr other ↦ elim next [
         | inl first ↦ absurd (other.1 (omega (arith, first, lt)))
         | inr going ↦
             let below : k < (state_after c ws).scan.next = omega (arith, going.0, lt, other.1) in
-            asked_still c s ws token k (subst (λ t. IsLoadedFor c.token ws t k) going.1 (asked.scanned k below))
+            asked_still c s ws token k (subst (λ t. HasLetPass c.token ws t k) going.1 (asked.scanned k below))
       ]
     ]
 
 counter_asked : (c : InitialState) (ws : List WriterStep) (token k0 counter : ℕ) → Asked c ws → token ≤ (state_after c ws).token → ((k0 ≡ 0) ⊎ (((state_after c ws).scan.next ≡ k0) × ((state_after c ws).scan.token ≡ token))) → (b : Bool) → lets_pass token counter ≡ b
-    → ((k : ℕ) → k < cond b (suc k0) 0 → IsLoadedFor c.token (LoadCounter token k0 counter ∷ ws) token k)
+    → ((k : ℕ) → k < cond b (suc k0) 0 → HasLetPass c.token (LoadCounter token k0 counter ∷ ws) token k)
     × ((cond (b && eqb (suc k0) c.workers) (max (state_after c ws).passed token) (state_after c ws).passed ≡ 0)
     ⊎ IsChecked c.workers c.token (LoadCounter token k0 counter ∷ ws) (cond (b && eqb (suc k0) c.workers) (max (state_after c ws).passed token) (state_after c ws).passed))
 counter_asked c ws token k0 counter asked le next false passes = (λ k lt. absurd (omega (arith, lt)), passed_still c (LoadCounter token k0 counter) ws (state_after c ws).passed asked.passed)

@@ -95,7 +95,7 @@ ReuseIsLawful = (c : InitialState) (newer between older : List TraceStep) (unlin
 
 -- among these steps of the writer, which began with the token `start`, the worker's counter was loaded in
 -- a check of the token, after the token was there, and let it pass
-pub record IsLoadedFor (start : ℕ) (w_steps : List WriterStep) (token worker : ℕ) : Type 0 where
+pub record HasLetPass (start : ℕ) (w_steps : List WriterStep) (token worker : ℕ) : Type 0 where
   pub newer : List WriterStep
   pub older : List WriterStep
   pub counter : ℕ
@@ -108,7 +108,7 @@ pub record IsLoadedFor (start : ℕ) (w_steps : List WriterStep) (token worker :
 pub record IsChecked (workers start : ℕ) (w_steps : List WriterStep) (token : ℕ) : Type 0 where
   pub checked : ℕ
   pub later : token ≤ checked
-  pub each : (worker : ℕ) → worker < workers → IsLoadedFor start w_steps checked worker
+  pub each : (worker : ℕ) → worker < workers → HasLetPass start w_steps checked worker
 
 -- each token up to the greatest that has passed was checked
 abbrev pub PassedIsChecked : Type 0

@@ -1,5 +1,5 @@
 -- Meaning: the order in which the writer makes its steps (DPDK Programmer's Guide, "RCU Library": a
--- token is started for what was given up, and a check asks one reader after another; the order
+-- token is started for what was given up, and a check loads one reader's counter after another; the order
 -- within an update is this project's).
 use Rattle.std.specs.Prelude.{◌≡◌, ℕ, suc, ◌/◌, ◌^◌, ◌<◌, ◌≤◌, ◌⊎◌, ⊤, Bool, true, false, cond, eqb, Option, Some, None}
 use Rattle.lpm_cells.specs.declared.entry.Entry.{Entry}
@@ -108,8 +108,8 @@ pub record IsOldest (w : TableState) (token : ℕ) : Type 0 where
   pub before : IsUpdating w → token < w.token
 
 -- the worker whose counter a check of the token loads next
-abbrev pub next_loaded : TableState → ℕ → ℕ
-next_loaded w token = cond (eqb w.scan.token token) w.scan.next 0
+abbrev pub next_to_load : TableState → ℕ → ℕ
+next_to_load w token = cond (eqb w.scan.token token) w.scan.next 0
 
 -- a check goes on; or the check of the oldest token begins, between updates or in one after an
 -- unlinking
@@ -117,7 +117,7 @@ abbrev pub IsLoadDue : TableState → WriterProgress → ℕ → ℕ → NextSte
 IsLoadDue w progress token worker Nothing =
     (worker ≡ 0) × IsOldest w token × (IsUpdating w → progress.reclaims ≡ true)
 IsLoadDue w progress token worker Bump = ⊥
-IsLoadDue w progress token worker (Check due) = (token ≡ due) × (worker ≡ next_loaded w token)
+IsLoadDue w progress token worker (Check due) = (token ≡ due) × (worker ≡ next_to_load w token)
 
 -- the token is bumped directly after an unlinking store; else by a synchronize, which comes between
 -- updates

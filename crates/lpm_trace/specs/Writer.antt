@@ -1,6 +1,6 @@
 -- Meaning: the writer's own list of steps, the newest first: what they leave, and which of its steps
 -- may come next, whatever its workers do in between (DPDK Programmer's Guide, "RCU Library": the
--- writer alone starts tokens and asks the readers' counters; the order within an update is this
+-- writer alone starts tokens and loads the readers' counters; the order within an update is this
 -- project's).
 use Rattle.std.specs.Prelude.{ℕ, suc, ◌+◌, cond, eqb, ◌&&◌, max, List, [], ◌∷◌, slice_index, ◌≡◌, ⊤}
 use Rattle.lpm_trace.specs.declared.step.WriterStep.{WriterStep}

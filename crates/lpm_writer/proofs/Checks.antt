@@ -6,7 +6,7 @@ use Rattle.lpm_trace.specs.declared.step.WriterStep.TheVariants.{LoadCounter}
 use Rattle.lpm_trace.specs.States.{InitialState, TableState, state_after, lets_pass}
 use Rattle.lpm_trace.specs.Progress.{WriterProgress, Check, IsLoadDue, progress_after_pass, progress_after_stop, progress_after_load, Nothing}
 use Rattle.lpm_trace.specs.Writer.{progress_after, MayStep}
-use Rattle.lpm_writer.specs.Traced.{Loads, WithSteps, Goes, LoadsCounters, Checks}
+use Rattle.lpm_writer.specs.Traced.{Loads, WithSteps, Goes, LoadsUntilStopped, Checks}
 use Rattle.lpm_writer.specs.Matching.{MayLoadCounters, SameTables, HasNothingDue}
 use Rattle.std.specs.Prelude.{◌&&◌, Result, Ok, Err, Some}
 use Rattle.lpm_limits.specs.declared.busy.Busy.{Busy}
@@ -212,7 +212,7 @@ module _ {M : Type 0} (does : M → WriterStep → M → Type 0) (c : InitialSta
   })
   check_passes x t z (inr h) = all_passed c.workers x t z refl h.1
 
-  stopped : (x : WithSteps M) (t : ℕ) (busy : Busy) (z : WithSteps M) → LoadsCounters does c.workers x t (Err busy) z → HasStopped c x.1 z.1
+  stopped : (x : WithSteps M) (t : ℕ) (busy : Busy) (z : WithSteps M) → LoadsUntilStopped does c.workers x t (Err busy) z → HasStopped c x.1 z.1
   stopped x t busy z h =
       let y = h.0 in
       let before = loaded does c busy.worker x t y h.2 h.1 in
@@ -251,5 +251,5 @@ module _ {M : Type 0} (does : M → WriterStep → M → Type 0) (c : InitialSta
           omega (arith, end.0, old)
 
   -- a worker stopped the check: no greater token has passed
-  pub asked_busy : (x : WithSteps M) (t : ℕ) (busy : Busy) (z : WithSteps M) → LoadsCounters does c.workers x t (Err busy) z → (state_after c z.1).passed ≡ (state_after c x.1).passed
+  pub asked_busy : (x : WithSteps M) (t : ℕ) (busy : Busy) (z : WithSteps M) → LoadsUntilStopped does c.workers x t (Err busy) z → (state_after c z.1).passed ≡ (state_after c x.1).passed
   asked_busy x t busy z h = (stopped x t busy z h).passed

@@ -23,7 +23,7 @@ use Rattle.lpm_trace.specs.declared.step.WriterStep.TheVariants.{StoreFirst, Sto
 use Rattle.lpm_trace.specs.States.{InitialState, TableState, state_after}
 use Rattle.fib_model.specs.State.{Reclaims, MakesRoom, State}
 use Rattle.lpm_writer.specs.declared.pool.GroupPool.{GroupPool}
-use Rattle.lpm_writer.specs.Traced.{WithSteps, Loads, LoadsCounters, Checks, Retires, by_writer, Goes, UnlinksNone, Stores, StoresOverLink, StoresAndCloses, state_of_traced}
+use Rattle.lpm_writer.specs.Traced.{WithSteps, Loads, LoadsUntilStopped, Checks, Retires, by_writer, Goes, UnlinksNone, Stores, StoresOverLink, StoresAndCloses, state_of_traced}
 use Rattle.lpm_writer.specs.Taking.{Takes, Finds}
 use Rattle.lpm_writer.specs.Steps.{StoreSameWord, since_opened, StoresOnce, IsStore, AreStopped, by_steps_from}
 use Rattle.lpm_writer.proofs.Making.{HasPassedStore, HasPassedStores, stored_by}
@@ -108,7 +108,7 @@ module _ {M : Type 0} (does : M → WriterStep → M → Type 0) (c : InitialSta
   loads zero x t z h = stays x z h
   loads (suc n) x t z h = nothing_on x.1 h.0.1 z.1 (loads n x t h.0 h.2) (subst (StoresNothing h.0.1) (sym h.4.1) (nothing_loaded h.0.1 t n h.1))
 
-  asks : (workers : ℕ) (x : WithSteps M) (t : ℕ) (r : Result (Unit {0}) Busy) (z : WithSteps M) → LoadsCounters does workers x t r z → StoresNothing x.1 z.1
+  asks : (workers : ℕ) (x : WithSteps M) (t : ℕ) (r : Result (Unit {0}) Busy) (z : WithSteps M) → LoadsUntilStopped does workers x t r z → StoresNothing x.1 z.1
   asks workers x t (Ok u) z h = loads workers x t z h
   asks workers x t (Err busy) z h =
       nothing_on x.1 h.0.1 z.1 (loads busy.worker x t h.0 h.1) (subst (StoresNothing h.0.1) (sym h.5.1) (nothing_loaded h.0.1 t busy.worker busy.counter))
@@ -189,7 +189,7 @@ module _ (M : Type 0) (does : M → WriterStep → M → Type 0) (c : InitialSta
   loads_alone zero x z token h = same x z h
   loads_alone (suc n) x z token h = (h.0.1, h.1, loads_alone n x h.0 token h.2, h.3, h.4.1)
 
-  asks_alone : (workers : ℕ) (x z : WithSteps M) (token : ℕ) (r : Result (Unit {0}) Busy) → LoadsCounters does workers x token r z → by_steps.LoadsCounters workers x.1 token r z.1
+  asks_alone : (workers : ℕ) (x z : WithSteps M) (token : ℕ) (r : Result (Unit {0}) Busy) → LoadsUntilStopped does workers x token r z → by_steps.LoadsUntilStopped workers x.1 token r z.1
   asks_alone workers x z token (Ok passed) h = loads_alone workers x z token h
   asks_alone workers x z token (Err busy) h = (h.0.1, loads_alone busy.worker x h.0 token h.1, h.2, h.3, h.4, h.5.1)
 
@@ -229,7 +229,7 @@ module _ (M : Type 0) (does : M → WriterStep → M → Type 0) (c : InitialSta
     loads_fixed zero x z token h = same_fixed x z h
     loads_fixed (suc n) x z token h = goes_fixed h.0 z (LoadCounter token n h.1) h.4 ∙ loads_fixed n x h.0 token h.2
 
-    asks_fixed : (workers : ℕ) (x z : WithSteps M) (token : ℕ) (r : Result (Unit {0}) Busy) → LoadsCounters does workers x token r z → fixed z.0 ≡ fixed x.0
+    asks_fixed : (workers : ℕ) (x z : WithSteps M) (token : ℕ) (r : Result (Unit {0}) Busy) → LoadsUntilStopped does workers x token r z → fixed z.0 ≡ fixed x.0
     asks_fixed workers x z token (Ok passed) h = loads_fixed workers x z token h
     asks_fixed workers x z token (Err busy) h = goes_fixed h.0 z (LoadCounter token busy.worker busy.counter) h.5 ∙ loads_fixed busy.worker x h.0 token h.1
 
@@ -317,7 +317,7 @@ module _ (c : InitialState) where
   loads_of zero x z token h = ap (λ l. (tt, l)) h
   loads_of (suc n) x z token h = ((tt, h.0), h.1, loads_of n x h.0 token h.2, h.3, (tt, h.4))
 
-  asks_of : (workers : ℕ) (x z : List WriterStep) (token : ℕ) (r : Result (Unit {0}) Busy) → by_steps.LoadsCounters workers x token r z → LoadsCounters AnyMemory workers (tt, x) token r (tt, z)
+  asks_of : (workers : ℕ) (x z : List WriterStep) (token : ℕ) (r : Result (Unit {0}) Busy) → by_steps.LoadsUntilStopped workers x token r z → LoadsUntilStopped AnyMemory workers (tt, x) token r (tt, z)
   asks_of workers x z token (Ok passed) h = loads_of workers x z token h
   asks_of workers x z token (Err busy) h = ((tt, h.0), loads_of busy.worker x h.0 token h.1, h.2, h.3, h.4, (tt, h.5))
 

@@ -10,7 +10,7 @@ use Rattle.lpm_groups.specs.declared.GroupState.{GroupState}
 use Rattle.lpm_limits.specs.declared.busy.Busy.{Busy}
 use Rattle.lpm_limits.specs.declared.config.Config.{Config}
 use Rattle.lpm_rules.specs.RuleMap.{RuleList}
-use Rattle.lpm_trace.specs.Progress.{Check, next_loaded}
+use Rattle.lpm_trace.specs.Progress.{Check, next_to_load}
 use Rattle.lpm_trace.specs.Writer.{progress_after}
 use Rattle.lpm_writer.specs.declared.pool.GroupPool.{GroupPool}
 use Rattle.lpm_writer.specs.Matching.{HasNothingDue, SameTables, GroupsMatchSteps, MayLoadCounters, MayReclaim, OnlyChecks, Remembers}
@@ -44,7 +44,7 @@ pub record IsAwaited (c : InitialState) (steps : List WriterStep) : Type 0 where
   pub alone : c.workers ≡ 0 → HasNothingDue c steps
   pub next_step : 0 < c.workers → (progress_after c steps).next_step ≡ Check (state_after c steps).token
   pub awaited : 0 < c.workers → (progress_after c steps).awaited ≡ Some (state_after c steps).token
-  pub next : next_loaded (state_after c steps) (state_after c steps).token ≡ 0
+  pub next : next_to_load (state_after c steps) (state_after c steps).token ≡ 0
 
 -- The control state rested after some steps. After these a token was started besides, and no check of it has
 -- passed; all else is as it was.

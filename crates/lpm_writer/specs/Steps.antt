@@ -1,6 +1,6 @@
 -- Meaning: the parts of a change, by the writer's steps alone, of which the newest stands first (DPDK
--- Programmer's Guide, "RCU Library": a check asks one reader after another, and a synchronize checks the token
--- that it starts until each reader has let it pass; the order within an update is this project's).
+-- Programmer's Guide, "RCU Library": a check loads one reader's counter after another, and a synchronize checks
+-- the token that it starts until each reader has let it pass; the order within an update is this project's).
 use Rattle.std.specs.Prelude.{ℕ, zero, suc, ◌≡◌, ◌<◌, ◌≤◌, ◌⊎◌, true, List, ◌∷◌, ◌++◌, Result, Ok, Err, ⊤, []}
 use Rattle.std.specs.List.{All}
 use Rattle.lpm_limits.specs.declared.busy.Busy.{Busy}
@@ -17,11 +17,11 @@ Loads zero x token z = z ≡ x
 Loads (suc n) x token z = (y : List WriterStep) × (counter : ℕ) × Loads n x token y
     × (lets_pass token counter ≡ true) × (z ≡ LoadCounter token n counter ∷ y)
 
--- the workers' counters were loaded one after another: all let the token pass, or the first that didn't stopped
+-- the workers' counters were loaded one after another: each let the token pass, or the first that didn't stopped
 -- the check
-abbrev pub LoadsCounters : ℕ → List WriterStep → ℕ → Result (Unit {0}) Busy → List WriterStep → Type 0
-LoadsCounters workers x token (Ok passed) z = Loads workers x token z
-LoadsCounters workers x token (Err busy) z = (y : List WriterStep) × Loads busy.worker x token y
+abbrev pub LoadsUntilStopped : ℕ → List WriterStep → ℕ → Result (Unit {0}) Busy → List WriterStep → Type 0
+LoadsUntilStopped workers x token (Ok passed) z = Loads workers x token z
+LoadsUntilStopped workers x token (Err busy) z = (y : List WriterStep) × Loads busy.worker x token y
     × (busy.worker < workers) × (0 < busy.counter) × (busy.counter < token)
     × (z ≡ LoadCounter token busy.worker busy.counter ∷ y)
 
@@ -30,7 +30,7 @@ LoadsCounters workers x token (Err busy) z = (y : List WriterStep) × Loads busy
 abbrev pub Checks : ℕ → List WriterStep → ℕ → Result (Unit {0}) Busy → List WriterStep → Type 0
 Checks workers x token result z =
     ((token ≤ passed_after workers x) × (result ≡ Ok tt) × (z ≡ x))
-    ⊎ ((0 < workers → passed_after workers x < token) × LoadsCounters workers x token result z)
+    ⊎ ((0 < workers → passed_after workers x < token) × LoadsUntilStopped workers x token result z)
 
 -- the step stores a word
 abbrev pub IsStore : WriterStep → Type 0

@@ -30,12 +30,12 @@ Loads does zero x token z = z ≡ x
 Loads {M} does (suc n) x token z = (y : WithSteps M) × (counter : ℕ) × Loads does n x token y
     × (lets_pass token counter ≡ true) × Goes does y (LoadCounter token n counter) z
 
--- the workers' counters were loaded one after another: all let the token pass, or the first that didn't stopped
+-- the workers' counters were loaded one after another: each let the token pass, or the first that didn't stopped
 -- the check
-abbrev pub LoadsCounters : {M : Type 0} → (M → WriterStep → M → Type 0) → ℕ → WithSteps M → ℕ
+abbrev pub LoadsUntilStopped : {M : Type 0} → (M → WriterStep → M → Type 0) → ℕ → WithSteps M → ℕ
     → Result (Unit {0}) Busy → WithSteps M → Type 0
-LoadsCounters does workers x token (Ok passed) z = Loads does workers x token z
-LoadsCounters {M} does workers x token (Err busy) z = (y : WithSteps M) × Loads does busy.worker x token y
+LoadsUntilStopped does workers x token (Ok passed) z = Loads does workers x token z
+LoadsUntilStopped {M} does workers x token (Err busy) z = (y : WithSteps M) × Loads does busy.worker x token y
     × (busy.worker < workers) × (0 < busy.counter) × (busy.counter < token)
     × Goes does y (LoadCounter token busy.worker busy.counter) z
 
@@ -45,7 +45,7 @@ abbrev pub Checks : {M : Type 0} → (M → WriterStep → M → Type 0) → Ini
     → Result (Unit {0}) Busy → WithSteps M → Type 0
 Checks does c x token result z =
     ((token ≤ (state_of_traced c x).passed) × (result ≡ Ok tt) × (z ≡ x))
-    ⊎ ((0 < c.workers → (state_of_traced c x).passed < token) × LoadsCounters does c.workers x token result z)
+    ⊎ ((0 < c.workers → (state_of_traced c x).passed < token) × LoadsUntilStopped does c.workers x token result z)
 
 -- the step stores a word, and not over one that links a group
 abbrev pub UnlinksNone : TableState → WriterStep → Type 0

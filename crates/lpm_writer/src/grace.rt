@@ -73,7 +73,7 @@ pub(crate) fn check_token<M: Memory>(
     if token <= *passed {
         return Ok(());
     }
-    for worker in 0..memory.counters() {
+    for worker in 0..memory.counter_count() {
         let counter = memory.load_counter(token, worker);
         if holds(counter, token) {
             return Err(Busy { worker, counter });

@@ -71,7 +71,7 @@ pub(crate) fn retire_group<M: Memory>(
     ensures others { SameLinksBut group pool.old.groups pool.new.groups }
     ensures gone { (b : ℕ) → ¬ IsLinkedTo pool.new.groups group b }
 {
-    let token = memory.start();
+    let token = memory.bump();
     pool.groups.retire(group);
     let is_above_threshold = pool.queue.len() > config.threshold;
     if is_above_threshold {

@@ -1,7 +1,7 @@
 //! A memory that one writer changes: words, a sequence, a token, and the workers' counters.
 //!
 //! Whatever keeps the words, the writer of a table makes the same calls. Each store, and `open_update`,
-//! `close_update`, `start` and `load_counter`, is one step of a trace; the writer's own loads of words are none.
+//! `close_update`, `bump` and `load_counter`, is one step of a trace; the writer's own loads of words are none.
 //! `PlainMemory` is the memory of one thread.
 
 ghost use Rattle.std.specs.Prelude.{◌≡◌, ℕ, ◌+◌, ◌^◌, ◌<◌, ◌≤◌, List, ◌∷◌};
@@ -31,7 +31,7 @@ pub trait Memory: Cells {
     ghost does: { Self → WriterStep → Self → Type 0 };
 
     /// How many workers have a counter.
-    fn counters(&self) -> usize
+    fn counter_count(&self) -> usize
         ensures { result ≡ worker_count self.now };
 
     /// The newest token.
@@ -52,7 +52,7 @@ pub trait Memory: Cells {
         ensures does { does self.old EndUpdate self.new };
 
     /// Starts a token, which no worker has loaded yet, and returns it.
-    fn start(&mut self) -> u64
+    fn bump(&mut self) -> u64
         requires low { newest self.old < 2 ^ 62 }
         requires may { MayBeNext did self.old BumpToken }
         ensures value { result ≡ newest self.old + 1 }

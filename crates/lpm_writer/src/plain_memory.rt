@@ -109,7 +109,7 @@ impl<const FIRST: u32, const SECOND: u32> Memory for PlainMemory<FIRST, SECOND> 
     ghost second_stored = { λ m i w z sets. record { words = sets.0; reports = sets.1; finds = tt } };
 
     #[inline]
-    fn counters(&self) -> usize {
+    fn counter_count(&self) -> usize {
         self.domain.workers()
     }
 
@@ -127,7 +127,7 @@ impl<const FIRST: u32, const SECOND: u32> Memory for PlainMemory<FIRST, SECOND> 
     fn close_update(&mut self) {}
 
     #[inline]
-    fn start(&mut self) -> u64 {
+    fn bump(&mut self) -> u64 {
         self.domain.start()
     }
 

@@ -36,7 +36,7 @@ pub fn start_synchronize<const FIRST: u32, const SECOND: u32, M: Memory>(
     if memory.token() + control.pool.groups.len() as u64 > LAST_TOKEN {
         return Err(Exhausted);
     }
-    memory.start();
+    memory.bump();
     Ok(())
 }
 

@@ -16,9 +16,9 @@ use Rattle.lpm_writer.specs.Waiting.{tokens_of}
 use Rattle.lpm_writer.proofs.StepsAlone.{checks_alone, checks_fixed}
 use Rattle.shared_words.specs.declared.view.View.{View}
 use Rattle.shared_words.specs.Layout.{InitialData, initial_state_of}
-use Rattle.shared_words.specs.Seats.{AreLawful, with_step}
+use Rattle.shared_words.specs.Seats.{AreLawful, state_of_view, with_step}
 use Rattle.shared_fib.specs.Leading.{IsInGrace}
-use Rattle.shared_fib.specs.Lent.{LentSeat, SharedDid, passed_by, state_of_lent, state_of_view, token_by}
+use Rattle.shared_fib.specs.Lent.{LentSeat, SharedDid, passed_by, state_of_lent, token_by}
 use Rattle.shared_fib.specs.Running.{IsSoundWriter, OnlySees}
 use Rattle.shared_fib.proofs.Seated.{either, on_err_then, on_ok_both, on_ok_then, seat_passed, seat_token_stays, Kept, kept, does_in, stays, only_sees, outcome_after, rests_after}
 use Rattle.shared_fib.proofs.Waited.{exhausted_by, queued_passed}
@@ -38,8 +38,8 @@ module _ (f s : ℕ) (old new : ControlState f s) (v w : View) (m z : LentSeat) 
   abbrev Waits : InitialState → List WriterStep → Type 0
   Waits by later = IsWaiting f s by later new.config new.rules new.pool new.versions
 
-  abbrev Rests : InitialState → List WriterStep → Type 0
-  Rests by later = IsResting f s by later new.config new.rules new.pool new.versions
+  abbrev RestsNow : InitialState → List WriterStep → Type 0
+  RestsNow by later = IsResting f s by later new.config new.rules new.pool new.versions
 
   in_grace : (later : List WriterStep) → SharedDid z c later → Waits c later → IsInGrace f s new w
   in_grace later did waits = subst (IsInGrace f s new) knows (record {
@@ -84,7 +84,7 @@ module _ (f s : ℕ) (old new : ControlState f s) (v w : View) (m z : LentSeat) 
   pub checks_once : (r : Result (Unit {0}) Busy) → kept z ≡ kept m → 0 < token_by v → AreLawful z.view.initial z.view.writer_steps
       → (later : List WriterStep) × SharedDid z c later
       × traced.Checks does_in c (m, v.writer_steps) (state_of_lent m).token r (z, later)
-      × OnOk r (Rests c later) × OnErr r (Waits c later)
+      × OnOk r (RestsNow c later) × OnErr r (Waits c later)
       → OnOk r (All (λ (item : ℕ × ℕ). item.1 ≤ new.pool.passed) new.pool.queue.items)
       → new ≡ record old { pool = record old.pool { passed = new.pool.passed } } → ChecksOnce r w
   checks_once r still past lawful came queued same =
@@ -95,8 +95,8 @@ module _ (f s : ℕ) (old new : ControlState f s) (v w : View) (m z : LentSeat) 
       (ap (λ (x : View). (state_of_view x).token) knew ∙ token_is c v.writer_steps)
       (outcome_after (Checks c.workers v.writer_steps token r) z c came.0 came.1
       (checks_alone LentSeat does_in c (m, v.writer_steps) (z, came.0) token r came.2)) in
-      let rests : OnOk r (Rests (initial_state_of z.view.initial) z.view.writer_steps) =
-      on_ok_then r came.3 (rests_after Rests z c came.0 came.1) in
+      let rests : OnOk r (RestsNow (initial_state_of z.view.initial) z.view.writer_steps) =
+      on_ok_then r came.3 (rests_after RestsNow z c came.0 came.1) in
       subst (ChecksOnce r) knows (record {
         checks = by_steps;
         token = seat_token_stays v z.view sees r by_steps;

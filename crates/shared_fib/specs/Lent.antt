@@ -4,12 +4,12 @@ use Rattle.std.specs.Prelude.{◌≡◌, ℕ, ◌^◌, ◌≤◌, List, refl}
 use Rattle.std.specs.Coded.{Coded, code_by, coded×, coded_ℕ}
 use Rattle.atomic_table.specs.Seated.{TableId, table_id_coded}
 use Rattle.lpm_trace.specs.declared.step.WriterStep.{WriterStep}
-use Rattle.lpm_trace.specs.States.{InitialState, TableState, state_after, updates_begun_in}
+use Rattle.lpm_trace.specs.States.{InitialState, TableState, updates_begun_in}
 use Rattle.lpm_trace.specs.Writer.{token_after, passed_after, IsWritten, MayStep}
 use Rattle.shared_words.specs.declared.view.View.{View}
 use Rattle.shared_words.specs.contracts.view.View as view_row
 use Rattle.shared_words.specs.Layout.{initial_state_of}
-use Rattle.shared_words.specs.Seats.{with_step}
+use Rattle.shared_words.specs.Seats.{state_of_view, with_step}
 
 -- a seat that was lent under a name: its table, and what it knows
 pub record LentSeat : Type 0 where
@@ -23,10 +23,6 @@ coded_lent =
     (λ l. (l.name, (l.table, l.view)))
     (λ p. record { name = p.0; table = p.1.0; view = p.1.1 })
     (λ _. refl)
-
--- what the steps of the view leave
-abbrev pub state_of_view : View → TableState
-state_of_view v = state_after (initial_state_of v.initial) v.writer_steps
 
 -- the token, and the greatest that has passed, by the steps of the view
 abbrev pub token_by : View → ℕ

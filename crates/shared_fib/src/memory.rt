@@ -68,7 +68,7 @@ impl<'a, const FIRST: u32, const SECOND: u32> Memory for SharedMemory<'a, FIRST,
     ghost second_stored = { λ m i w z sets. sets };
 
     #[inline]
-    fn counters(&self) -> usize {
+    fn counter_count(&self) -> usize {
         self.table.workers()
     }
 
@@ -90,7 +90,7 @@ impl<'a, const FIRST: u32, const SECOND: u32> Memory for SharedMemory<'a, FIRST,
     }
 
     #[inline]
-    fn start(&mut self) -> u64 {
+    fn bump(&mut self) -> u64 {
         let token = self.token + 1;
         self.seat.bump_token(self.table, token);
         self.token = token;
@@ -99,6 +99,6 @@ impl<'a, const FIRST: u32, const SECOND: u32> Memory for SharedMemory<'a, FIRST,
 
     #[inline]
     fn load_counter(&mut self, checked: u64, worker: usize) -> u64 {
-        self.seat.check_counter(self.table, checked, worker)
+        self.seat.load_worker_counter(self.table, checked, worker)
     }
 }

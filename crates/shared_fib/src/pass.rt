@@ -87,7 +87,7 @@ impl Pass {
     pub fn history(&self)
         ensures { IsHistory self.now }
     {
-        self.seat.steps_are_lawful();
+        self.seat.view_is_sound();
     }
 
     /// Whether the pass is online: from a report that it is until one that it is offline.
@@ -182,7 +182,7 @@ impl Pass {
         ensures online { self.new.online ≡ true }
     {
         let found = lookup_address::<FIRST, SECOND, _>(&mut self.seat, &table.words, addr);
-        self.seat.steps_are_lawful();
+        self.seat.view_is_sound();
         found
     }
 
@@ -239,7 +239,7 @@ impl Pass {
     {
         let words = &table.words;
         let found = lookup_four_addresses::<FIRST, SECOND, _>(&mut self.seat, words, a, b, c, d);
-        self.seat.steps_are_lawful();
+        self.seat.view_is_sound();
         found
     }
 

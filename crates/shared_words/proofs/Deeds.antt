@@ -154,8 +154,8 @@ answered now a Miss last = refl
 answered now a (Hop hop depth) last = refl
 answered now a (Group group) last = absurd last
 
--- Seats that leave notes for one another: a worker that was told all that the writer has seen, and a writer
--- that was told all that the worker has seen, have seen the same steps.
+-- Seats that leave notes for one another: a worker that has heard all that the writer has seen, and a writer
+-- that has heard all that the worker has seen, have seen the same steps.
 
 module _ (o : InitialData) where
   abbrev St : Type 0
@@ -181,19 +181,19 @@ module _ (o : InitialData) where
       → IsViewOf o steps seating seat v → (j : ℕ) → IsViewOf o steps seating j (note_of v)
   note_is steps seating seat v is j = record { sits = tt; writer_steps = is.writer_steps; heard = later_none (writes steps) }
 
-  -- what a seat was told changes nothing else of it
-  told_sits : (steps : List TraceStep) (seating : Seating) (seat : ℕ) (v : View) (told : List WriterStep)
+  -- what a seat has heard changes nothing else of it
+  heard_sits : (steps : List TraceStep) (seating : Seating) (seat : ℕ) (v : View) (told : List WriterStep)
       → (role : Role) → Sits o steps seating seat v role
       → Sits o steps seating seat (record v { heard = told }) role
-  told_sits steps seating seat v told Writer h = h
-  told_sits steps seating seat v told (Worker k) h = h
-  told_sits steps seating seat v told Note h = tt
+  heard_sits steps seating seat v told Writer h = h
+  heard_sits steps seating seat v told (Worker k) h = h
+  heard_sits steps seating seat v told Note h = tt
 
-  told_is : (steps : List TraceStep) (seating : Seating) (seat : ℕ) (v : View) (told : List WriterStep)
+  heard_is : (steps : List TraceStep) (seating : Seating) (seat : ℕ) (v : View) (told : List WriterStep)
       → IsViewOf o steps seating seat v → IsLater told (writes steps)
       → IsViewOf o steps seating seat (record v { heard = told })
-  told_is steps seating seat v told is later = record {
-    sits = told_sits steps seating seat v told v.role is.sits;
+  heard_is steps seating seat v told is later = record {
+    sits = heard_sits steps seating seat v told v.role is.sits;
     writer_steps = is.writer_steps;
     heard = later;
   }
@@ -222,9 +222,9 @@ module _ (o : InitialData) where
       (seats_set is (slice_set s.views id (view_with_note v w)) other read_note
       record { sits = tt; writer_steps = later_none (writes h.steps); heard = later_none (writes h.steps) }
       (λ j u _. seats_set is s.views id (view_with_note v w)
-      (told_is h.steps h.seating id v w.writer_steps (h.views id v at) note.writer_steps) (λ j u _. h.views j u) j u))
+      (heard_is h.steps h.seating id v w.writer_steps (h.views id v at) note.writer_steps) (λ j u _. h.views j u) j u))
 
-  -- the writer compares what it was told with its own steps
+  -- the writer compares what it has heard with its own steps
   pub compares_allowed : (slots id at : ℕ) (me : Me (Unit {0}) View) → me.0.role ≡ Writer
       → Allows (Holds o) slots id me at (λ n. n) (SeatCompares (step slots at 0 0 none) me)
   compares_allowed slots id at me role s h len there range =
@@ -238,6 +238,6 @@ module _ (o : InitialData) where
             (λ (words : List ℕ). Holds o record { words = words; homes = s.homes; views = slice_set s.views id w })
             (sym (set-get_or s.words at 0))
             (kept s h (slice_set s.views id w) (seats_set (IsViewOf o h.steps h.seating) s.views id w
-            (told_is h.steps h.seating id me.0 [] known (later_none (writes h.steps))) (λ j u _. h.views j u))),
+            (heard_is h.steps h.seating id me.0 [] known (later_none (writes h.steps))) (λ j u _. h.views j u))),
         (refl, subst (IsLater me.0.heard) (sym mine.2) known.heard),
       )

@@ -61,15 +61,15 @@ with_step v s = record v { writer_steps = s ∷ v.writer_steps }
 
 -- each token up to the greatest that has passed was checked
 abbrev pub AreChecked : InitialData → List WriterStep → Type 0
-AreChecked o seen = (token : ℕ) → 0 < token → token ≤ passed_after o.workers seen
-    → IsChecked o.workers o.token seen token
+AreChecked o w_steps = (token : ℕ) → 0 < token → token ≤ passed_after o.workers w_steps
+    → IsChecked o.workers o.token w_steps token
 
 -- the writer's steps: each might come after those before it, they leave entries, and each token that has
 -- passed was checked
-pub record AreLawful (o : InitialData) (seen : List WriterStep) : Type 0 where
-  pub written : IsWritten (initial_state_of o) seen
-  pub words : IsWords o.first o.second (state_after (initial_state_of o) seen).words
-  pub checked : AreChecked o seen
+pub record AreLawful (o : InitialData) (w_steps : List WriterStep) : Type 0 where
+  pub written : IsWritten (initial_state_of o) w_steps
+  pub words : IsWords o.first o.second (state_after (initial_state_of o) w_steps).words
+  pub checked : AreChecked o w_steps
 
 -- the writer's step is made, and its steps are lawful then
 abbrev pub WriterGains : WriterStep → Me (Unit {0}) View → Me (Unit {0}) View → Type 0
@@ -92,22 +92,22 @@ pub record IsWriterSeat (me : Me (Unit {0}) View) : Type 0 where
   pub lawful : AreLawful me.0.initial me.0.writer_steps
 
 -- a load of a word that the writer alone changes is no step, and finds what its own steps left
-pub record IsFoundAt (o : InitialData) (seen : List WriterStep) (at word : ℕ) : Type 0 where
+pub record IsFoundAt (o : InitialData) (w_steps : List WriterStep) (at word : ℕ) : Type 0 where
   pub first : (i : ℕ) → i < length o.firsts → at ≡ first_at i
-      → half i word ≡ slice_index (state_after (initial_state_of o) seen).words.firsts i
+      → half i word ≡ slice_index (state_after (initial_state_of o) w_steps).words.firsts i
   pub second : (j : ℕ) → j < length o.seconds → at ≡ second_at o j
-      → half j word ≡ slice_index (state_after (initial_state_of o) seen).words.seconds j
-  pub sequence : at ≡ sequence_at → word ≡ (state_after (initial_state_of o) seen).sequence
-  pub token : at ≡ token_at → word ≡ (state_after (initial_state_of o) seen).token
+      → half j word ≡ slice_index (state_after (initial_state_of o) w_steps).words.seconds j
+  pub sequence : at ≡ sequence_at → word ≡ (state_after (initial_state_of o) w_steps).sequence
+  pub token : at ≡ token_at → word ≡ (state_after (initial_state_of o) w_steps).token
 
 abbrev pub WriterLooks : Step (Unit {0}) → Me (Unit {0}) View → ℕ → Me (Unit {0}) View → Type 0
 WriterLooks s me x me' = (me' ≡ me) × IsFoundAt me.0.initial me.0.writer_steps s.word x
 
 -- ---- a worker
 
--- what a worker knows after a step: the writer's steps that it has seen are lawful, its own steps stand
--- at places among them that never fall, each may come at its place, and each lookup that it has finished
--- is legal
+-- what a worker knows after a step: the writer's steps that it has seen might come one after another and leave
+-- entries, its own steps stand at places among them that never fall, each may come at its place, and each lookup
+-- that it has finished is legal
 pub record IsSound (v : View) : Type 0 where
   pub written : IsWritten (initial_state_of v.initial) v.writer_steps
   pub words : IsWords v.initial.first v.initial.second

@@ -32,11 +32,11 @@ pub fn lookup_address<const FIRST: u32, const SECOND: u32, T: InitialContent>(
         seat.old.view seat.new.view }
 {
     let low = seat.begin_lookup(table, &[u64::from(addr)]);
-    seat.steps_are_lawful();
+    seat.view_is_sound();
     let word = seat.load_first(table, Shape::<FIRST, SECOND>::first_index(addr));
     let word = load_last::<FIRST, SECOND, T>(seat, table, addr, word);
     let high = seat.end_lookup(table);
-    seat.steps_are_lawful();
+    seat.view_is_sound();
     Answer {
         hop: Entry::hop_of_last_word::<FIRST, SECOND>(word),
         lo: low / 2,

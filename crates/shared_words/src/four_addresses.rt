@@ -47,14 +47,14 @@ pub fn lookup_four_addresses<const FIRST: u32, const SECOND: u32, T: InitialCont
 {
     let addrs = [u64::from(a), u64::from(b), u64::from(c), u64::from(d)];
     let low = seat.begin_lookup(table, &addrs);
-    seat.steps_are_lawful();
+    seat.view_is_sound();
     let (w, x, y, z) = load_firsts::<FIRST, SECOND, T>(seat, table, a, b, c, d);
     let w = load_last::<FIRST, SECOND, T>(seat, table, a, w);
     let x = load_last::<FIRST, SECOND, T>(seat, table, b, x);
     let y = load_last::<FIRST, SECOND, T>(seat, table, c, y);
     let z = load_last::<FIRST, SECOND, T>(seat, table, d, z);
     let high = seat.end_lookup(table);
-    seat.steps_are_lawful();
+    seat.view_is_sound();
     FourAnswers {
         hops: [
             Entry::hop_of_last_word::<FIRST, SECOND>(w),

@@ -57,7 +57,7 @@ impl WorkerSeat {
     /// Does nothing: its contract says what the steps of a worker, and those that it has seen of the
     /// writer, are.
     #[inline]
-    pub fn steps_are_lawful(&self)
+    pub fn view_is_sound(&self)
         ensures { IsSound self.now.view }
     {
         let _ = &self.place;
@@ -219,11 +219,11 @@ impl WorkerSeat {
     {
         let at = Layout::SEQUENCE;
         let shared = &table.board.shared;
-        let told = shared.split_seat::<Notes>(&mut writer.place);
-        shared.join_seat::<Hears>(&mut self.place, told);
+        let note = shared.split_seat::<Notes>(&mut writer.place);
+        shared.join_seat::<Hears>(&mut self.place, note);
         shared.load::<Meeting>(&mut self.place, at);
-        let told = shared.split_seat::<Notes>(&mut self.place);
-        shared.join_seat::<Hears>(&mut writer.place, told);
+        let note = shared.split_seat::<Notes>(&mut self.place);
+        shared.join_seat::<Hears>(&mut writer.place, note);
         shared.load::<Compares>(&mut writer.place, at);
     }
 }

@@ -117,7 +117,7 @@ impl WriterSeat {
 
     /// Loads the counter of a worker, in a check of the token.
     #[inline]
-    pub fn check_counter<T: InitialContent>(
+    pub fn load_worker_counter<T: InitialContent>(
         &mut self,
         table: &SharedWords<T>,
         token: u64,

@@ -3,7 +3,7 @@ use Rattle.std.proofs.lemmas.Bool.{cases_lt}
 use Rattle.lpm_trace.specs.declared.step.WriterStep.TheVariants.{LoadCounter}
 use Rattle.std.specs.Prelude.{Err}
 use Rattle.lpm_limits.specs.declared.busy.Busy.{Busy}
-use Rattle.lpm_writer.specs.Traced.{LoadsCounters, Loads}
+use Rattle.lpm_writer.specs.Traced.{LoadsUntilStopped, Loads}
 use Rattle.lpm_writer.proofs.Checks.{asked_none, asked_more, asked_all, asked_busy, passes_by}
 use Rattle.lpm_writer.proofs.grace.check_token.Goals as goal
 
@@ -17,7 +17,7 @@ load_counter-counter-requires-clause-worker g c =
     let so_far = c.loop-worker.invariant.asked may.0 may.1 may.2 ask in
     let now = (g.met.M.Memory.shows c.loop-worker.memory may.0 so_far.0 so_far.1).2 in
     let old = (g.met.M.Memory.shows c.args.memory.now may.0 may.1 may.2).2 in
-    omega (arith, c.loop-worker-test.true, c.counters-worker-end.ensures, now, old)
+    omega (arith, c.loop-worker-test.true, c.counter_count-worker-end.ensures, now, old)
 
 pub load_counter-counter-requires-clause-may : goal.load_counter-counter-requires-clause-may
 load_counter-counter-requires-clause-may g c = λ counter.
@@ -25,20 +25,20 @@ load_counter-counter-requires-clause-may g c = λ counter.
     let ask = may.3 (omega (arith, c.if-token-passed.false)) in
     let so_far = c.loop-worker.invariant.asked may.0 may.1 may.2 ask in
     let old = (g.met.M.Memory.shows c.args.memory.now may.0 may.1 may.2).2 in
-    (may.0, so_far.0, so_far.1, so_far.3 (omega (arith, c.loop-worker-test.true, c.counters-worker-end.ensures, old)) counter)
+    (may.0, so_far.0, so_far.1, so_far.3 (omega (arith, c.loop-worker-test.true, c.counter_count-worker-end.ensures, old)) counter)
 
 pub returns-then-holds-clause-checks : goal.returns-then-holds-clause-checks
 returns-then-holds-clause-checks g c = λ s steps did known may.
     let more : c.args.passed.now < c.args.token = omega (arith, c.if-token-passed.false) in
     let so_far = c.loop-worker.invariant.asked s steps did (may more) in
     let old = (g.met.M.Memory.shows c.args.memory.now s steps did).2 in
-    let below : c.loop-worker.worker < s.workers = omega (arith, c.loop-worker-test.true, c.counters-worker-end.ensures, old) in
+    let below : c.loop-worker.worker < s.workers = omega (arith, c.loop-worker-test.true, c.counter_count-worker-end.ensures, old) in
     let does = c.load_counter-counter.ensures.does in
     let held = c.holds.ensures.0 c.if-holds.true in
     let next = LoadCounter c.args.token c.loop-worker.worker c.load_counter-counter.result in
     let later = next ∷ so_far.0 in
     let busy : Busy = record { worker = c.loop-worker.worker; counter = c.load_counter-counter.result } in
-    let asked : LoadsCounters g.M.Memory.does s.workers (c.args.memory.now, steps) c.args.token (Err busy) (c.load_counter-counter.new.self, later) = ((c.loop-worker.memory, so_far.0), so_far.2, below, held.0, held.1, (does, refl)) in (
+    let asked : LoadsUntilStopped g.M.Memory.does s.workers (c.args.memory.now, steps) c.args.token (Err busy) (c.load_counter-counter.new.self, later) = ((c.loop-worker.memory, so_far.0), so_far.2, below, held.0, held.1, (does, refl)) in (
       later,
       g.met.M.Memory.follows c.loop-worker.memory next c.load_counter-counter.new.self s so_far.0 does so_far.1 (so_far.3 below c.load_counter-counter.result),
       inr ((λ some. let k = known some in omega (arith, k, more)), asked),
@@ -57,7 +57,7 @@ loop-worker-preserved g c =
     record {
       asked = asked_more g.M.Memory.did g.M.Memory.does g.met.M.Memory.follows c.args.memory.now c.args.token c.loop-worker.worker c.loop-worker.memory c.load_counter-counter.result c.load_counter-counter.new.self
           c.loop-worker.invariant.asked c.load_counter-counter.ensures.does (passes_by c.args.token c.load_counter-counter.result passes)
-          (λ s steps did. let old = (g.met.M.Memory.shows c.args.memory.now s steps did).2 in omega (arith, c.loop-worker-test.true, c.counters-worker-end.ensures, old));
+          (λ s steps did. let old = (g.met.M.Memory.shows c.args.memory.now s steps did).2 in omega (arith, c.loop-worker-test.true, c.counter_count-worker-end.ensures, old));
     }
 
 pub returns-clause-checks : goal.returns-clause-checks

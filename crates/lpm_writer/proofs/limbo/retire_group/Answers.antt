@@ -18,8 +18,8 @@ use Rattle.lpm_writer.proofs.limbo.retire_group.Given.{Over}
 use Rattle.lpm_writer.proofs.limbo.retire_group.Goals.{After-retire-2, then-is_above_threshold, else-is_above_threshold}
 use Rattle.lpm_writer.proofs.limbo.retire_group.Goals as goal
 
-pub start-token-requires-clause-may : goal.start-token-requires-clause-may
-start-token-requires-clause-may g c =
+pub bump-token-requires-clause-may : goal.bump-token-requires-clause-may
+bump-token-requires-clause-may g c =
     let h = c.requires.unlinked in
     (h.0, h.1, h.3, may_bump h.0 h.1 c.args.pool.now c.args.group h.2 h.4)
 
@@ -46,7 +46,7 @@ bumped g m z x group states does set s steps held did h =
 pub free_waiting-requires-clause-kept : goal.free_waiting-requires-clause-kept
 free_waiting-requires-clause-kept g c =
     let h = c.requires.unlinked in
-    let on = bumped g c.args.memory.now c.start-token.new.self c.args.pool.now c.args.group c.retire.new.self c.start-token.ensures.does c.retire.ensures h.0 h.1 h.2 h.3 h.4 in
+    let on = bumped g c.args.memory.now c.bump-token.new.self c.args.pool.now c.args.group c.retire.new.self c.bump-token.ensures.does c.retire.ensures h.0 h.1 h.2 h.3 h.4 in
     (h.0, BumpToken ∷ h.1, (c.args.group, suc (state_after h.0 h.1).token) ∷ [], h.2, on.0, on.1, on.2)
 
 pub retire-requires-2 : goal.retire-requires-2
@@ -71,7 +71,7 @@ made g c =
       | then-is_above_threshold w ↦
           let r = w.free_waiting in
           let h = c.requires.unlinked in
-          let on = bumped g c.args.memory.now c.start-token.new.self c.args.pool.now c.args.group c.retire.new.self c.start-token.ensures.does c.retire.ensures h.0 h.1 h.2 h.3 h.4 in
+          let on = bumped g c.args.memory.now c.bump-token.new.self c.args.pool.now c.args.group c.retire.new.self c.bump-token.ensures.does c.retire.ensures h.0 h.1 h.2 h.3 h.4 in
           let freed = r.ensures.reclaims h.0 (BumpToken ∷ h.1) ((c.args.group, suc (state_after h.0 h.1).token) ∷ []) h.2 on.0 on.1 on.2 in
           subst (MadeRoom x c.args.group) (sym w.pool-is) (record {
             n = r.result.freed;
@@ -87,7 +87,7 @@ pub returns-clause-queued : goal.returns-clause-queued
 returns-clause-queued g c =
     let at = c.requires.linked in
     subst (IsQueued c.if-is_above_threshold.pool.groups) (sym c.retire-2.ensures)
-    (retired_queue c.args.pool.now c.if-is_above_threshold.pool c.args.group at.0 c.start-token.result at.1 c.requires.queued (made g (goal.at.returns-clause-queued g c).After-retire-2))
+    (retired_queue c.args.pool.now c.if-is_above_threshold.pool c.args.group at.0 c.bump-token.result at.1 c.requires.queued (made g (goal.at.returns-clause-queued g c).After-retire-2))
 
 pub returns-clause-linked : goal.returns-clause-linked
 returns-clause-linked g c = let at = c.requires.linked in retired_linked c.args.pool.now c.if-is_above_threshold.pool c.args.group at.0 at.1 (made g (goal.at.returns-clause-linked g c).After-retire-2)
@@ -104,12 +104,12 @@ returns-clause-retires g c = λ s steps held did h.
     let y = c.if-is_above_threshold.pool in
     let config = c.args.config.now in
     let now = (state_after s steps).token in
-    let token : c.start-token.result ≡ suc now = let e = (g.met.M.Memory.shows c.args.memory.now s steps did).1 in omega (arith, e, c.start-token.ensures.value) in
+    let token : c.bump-token.result ≡ suc now = let e = (g.met.M.Memory.shows c.args.memory.now s steps did).1 in omega (arith, e, c.bump-token.ensures.value) in
     let limbo = tokens_of x.queue.items in
     let long : c.len.result ≡ length limbo = omega (arith, c.len.ensures.len, length-map x.queue.items (λ item. item.1)) in
     let tail = (c.args.group, suc now) ∷ [] in
-    let start : WithSteps g.row.M.Denot = (c.start-token.new.self, BumpToken ∷ steps) in
-    let on = bumped g c.args.memory.now c.start-token.new.self c.args.pool.now c.args.group c.retire.new.self c.start-token.ensures.does c.retire.ensures s steps held did h in
+    let start : WithSteps g.row.M.Denot = (c.bump-token.new.self, BumpToken ∷ steps) in
+    let on = bumped g c.args.memory.now c.bump-token.new.self c.args.pool.now c.args.group c.retire.new.self c.bump-token.ensures.does c.retire.ensures s steps held did h in
     let Went = λ (p : GroupPool) (m : g.row.M.Denot). (later : List WriterStep) × g.M.Memory.did m s later × OnlyChecks s (BumpToken ∷ steps) later
     × GroupsMatchSteps s later p.groups (p.queue.items ++ tail) p.passed held × MakesRoom (by_writer g.M.Memory.does s) config start limbo (tokens_of p.queue.items) (m, later) in
     let done : Went y c.if-is_above_threshold.memory = elim c.if-is_above_threshold.branch [
@@ -129,5 +129,5 @@ returns-clause-retires g c = λ s steps held did h.
       done.1,
       bumped_on s steps done.0 x c.args.group held h done.2,
       subst (λ xs. GroupsMatchSteps s done.0 y.groups xs y.passed held) (sym items) done.3,
-      (start, tokens_of y.queue.items, (c.start-token.ensures.does, refl), done.4, ap tokens_of items ∙ tokens_append y.queue.items c.args.group (suc now)),
+      (start, tokens_of y.queue.items, (c.bump-token.ensures.does, refl), done.4, ap tokens_of items ∙ tokens_append y.queue.items c.args.group (suc now)),
     )

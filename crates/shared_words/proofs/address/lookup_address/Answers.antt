@@ -9,7 +9,7 @@ pub load_first-word-requires-clause-index : goal.load_first-word-requires-clause
 load_first-word-requires-clause-index g c =
     let own = c.requires.own in
     let begun = c.begin_lookup-low.ensures.step in
-    let count = firsts_are _ _ _ _ begun c.steps_are_lawful.ensures c.requires.first in
+    let count = firsts_are _ _ _ _ begun c.view_is_sound.ensures c.requires.first in
     let same = ap (λ (x : View). length x.initial.firsts) begun.view in
     let opening = ap (λ (o : InitialData). length o.firsts) own.initial_is in
     omega (arith, c.first_index.ensures.bound, count, same, opening, own.firsts)
@@ -26,5 +26,5 @@ returns-clause-answer g c =
     let half : high / 2 + high % 2 ≡ (high + 1) / 2 = omega arith in
     let first = reads_alone c.from.ensures c.begin_lookup-low.ensures.step
     c.load_first-word.ensures.word c.load_first-word.ensures.step in
-    looked (answers first c.load_last-word.ensures.loads) c.end_lookup-high.ensures.step c.steps_are_lawful.ensures
-    c.steps_are_lawful-2.ensures refl (sym c.hop_of_last_word.ensures) refl half
+    looked (answers first c.load_last-word.ensures.loads) c.end_lookup-high.ensures.step c.view_is_sound.ensures
+    c.view_is_sound-2.ensures refl (sym c.hop_of_last_word.ensures) refl half

@@ -5,7 +5,7 @@ use Rattle.shared_words.proofs.four_addresses.lookup_four_addresses.Goals as goa
 
 pub load_firsts-w-requires-clause-firsts : goal.load_firsts-w-requires-clause-firsts
 load_firsts-w-requires-clause-firsts g c =
-    firsts_are _ _ _ _ c.begin_lookup-low.ensures.step c.steps_are_lawful.ensures c.requires.first
+    firsts_are _ _ _ _ c.begin_lookup-low.ensures.step c.view_is_sound.ensures c.requires.first
 
 pub load_last-w-requires-clause-next : goal.load_last-w-requires-clause-next
 load_last-w-requires-clause-next g c =
@@ -57,6 +57,6 @@ returns-clause-answers g c =
     let x = answers w c.load_last-x.ensures.loads in
     let y = answers x c.load_last-y.ensures.loads in
     let z = answers y c.load_last-z.ensures.loads in
-    looked_together z c.end_lookup-high.ensures.step c.steps_are_lawful.ensures c.steps_are_lawful-2.ensures refl
+    looked_together z c.end_lookup-high.ensures.step c.view_is_sound.ensures c.view_is_sound-2.ensures refl
     (sym (same_four c.hop_of_last_word.ensures c.hop_of_last_word-2.ensures c.hop_of_last_word-3.ensures
     c.hop_of_last_word-4.ensures)) refl half

@@ -5,8 +5,8 @@ use Rattle.shared_fib.specs.Lent.{LentSeat, SharedMay}
 use Rattle.shared_fib.specs.LentLaws.{shared_may}
 use Rattle.shared_fib.proofs.memory.SharedMemoryMemory.load_counter.Goals as goal
 
-pub check_counter-requires-clause-may : goal.check_counter-requires-clause-may
-check_counter-requires-clause-may g c = λ counter.
+pub load_worker_counter-requires-clause-may : goal.load_worker_counter-requires-clause-may
+load_worker_counter-requires-clause-may g c = λ counter.
     let step : WriterStep = LoadCounter c.args.checked c.args.worker counter in
     subst (λ (m : LentSeat). SharedMay m step) (sym c.self.view_is)
     (shared_may c.args.self.now step (c.requires.may counter))

@@ -8,4 +8,4 @@ returns-clause-answers g c =
     let a = c.args in
     looks_up_all c.self.inside.is_online _ (a.a ∷ a.b ∷ a.c ∷ a.d ∷ []) found.result.hops found.result.lo found.result.hi
     c.self.inside.seat found.new.seat c.args.self.now c.self.view_is
-    found.ensures.own found.ensures.worker found.ensures.answers c.steps_are_lawful.ensures
+    found.ensures.own found.ensures.worker found.ensures.answers c.view_is_sound.ensures

@@ -4,7 +4,7 @@ use Rattle.shared_fib.proofs.pass.Pass.history.Goals as goal
 
 pub returns : goal.returns
 returns c =
-    let known = c.steps_are_lawful.ensures in
+    let known = c.view_is_sound.ensures in
     subst IsHistory c.self.view_is (record {
       online = c.self.invariant;
       written = known.written;

@@ -7,8 +7,8 @@ use Rattle.shared_words.proofs.Reading.{meets_allowed, own_inside, writer_inside
 use Rattle.shared_words.proofs.Deeds.{notes_split, notes_join, compares_allowed}
 use Rattle.shared_words.proofs.worker.WorkerSeat.meet_writer.Goals as goal
 
-pub split_seat-told-requires : goal.split_seat-told-requires
-split_seat-told-requires g c =
+pub split_seat-note-requires : goal.split_seat-note-requires
+split_seat-note-requires g c =
     let own = writer_inside c.table.view_is c.writer.view_is c.requires.writer in (own.same, omega (arith, own.words), notes_split _ _ _)
 
 pub join_seat-requires : goal.join_seat-requires
@@ -29,8 +29,8 @@ load-requires g c =
           (sym heard) between),
     )
 
-pub split_seat-told-requires-2 : goal.split_seat-told-requires-2
-split_seat-told-requires-2 g c =
+pub split_seat-note-requires-2 : goal.split_seat-note-requires-2
+split_seat-note-requires-2 g c =
     let own = own_inside c.table.view_is c.self.view_is c.requires.own in (search rules, omega (arith, own.words), notes_split _ _ _)
 
 pub join_seat-requires-2 : goal.join_seat-requires-2
@@ -44,7 +44,7 @@ load-requires-2 g c =
       search rules,
       omega (arith, own.words),
       compares_allowed _ _ _ _ _ (ap {A = Me (Unit {0}) View} (λ m. m.0.role) c.join_seat-2.ensures.2
-          ∙ (ap {A = Me (Unit {0}) View} (λ m. m.0.role) c.split_seat-told.ensures.2
+          ∙ (ap {A = Me (Unit {0}) View} (λ m. m.0.role) c.split_seat-note.ensures.2
           ∙ c.writer.invariant.role)),
     )
 

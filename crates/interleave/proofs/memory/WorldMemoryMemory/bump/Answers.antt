@@ -5,7 +5,7 @@ use Rattle.interleave.specs.Record.{step_of_writer}
 use Rattle.interleave.specs.View.{WorldView}
 use Rattle.interleave.proofs.Reaching.{view_in, step_does_in}
 use Rattle.interleave.proofs.WriterSteps.{with_recorded_step, with_unrecorded_step}
-use Rattle.interleave.proofs.memory.WorldMemoryMemory.start.Goals as goal
+use Rattle.interleave.proofs.memory.WorldMemoryMemory.bump.Goals as goal
 
 pub returns-clause-does : goal.returns-clause-does
 returns-clause-does g c =

@@ -1,5 +1,5 @@
 use Rattle.std.proofs.Common.{rules}
-use Rattle.shared_fib.proofs.memory.SharedMemoryMemory.start.Goals as goal
+use Rattle.shared_fib.proofs.memory.SharedMemoryMemory.bump.Goals as goal
 
 pub bump_token-requires-clause-next : goal.bump_token-requires-clause-next
 bump_token-requires-clause-next c = search rules

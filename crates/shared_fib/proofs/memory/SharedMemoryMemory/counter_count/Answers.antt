@@ -1,5 +1,5 @@
 use Rattle.std.proofs.Common.{rules}
-use Rattle.shared_fib.proofs.memory.SharedMemoryMemory.counters.Goals as goal
+use Rattle.shared_fib.proofs.memory.SharedMemoryMemory.counter_count.Goals as goal
 
 pub returns : goal.returns
 returns c = search rules
