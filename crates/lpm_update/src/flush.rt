@@ -21,7 +21,7 @@ impl Flush {
     ghost use Rattle.lpm_update.specs.Step.{AllowsNext, Steps, SetsWord};
 
     /// Makes the next store of the flush, or none where it is done.
-    pub(crate) fn step<const FIRST: u32, const SECOND: u32, C: Cells>(
+    pub(crate) fn flush_next<const FIRST: u32, const SECOND: u32, C: Cells>(
         &mut self,
         cells: &mut C,
     ) -> Did

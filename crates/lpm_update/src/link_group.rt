@@ -91,7 +91,7 @@ impl LinkGroup {
 
     /// Makes the next store of the addition, or none where it is done.
     #[inline]
-    pub(crate) fn step<const FIRST: u32, const SECOND: u32, C: Cells>(
+    pub(crate) fn link_next<const FIRST: u32, const SECOND: u32, C: Cells>(
         &mut self,
         cells: &mut C,
     ) -> Did
@@ -125,7 +125,7 @@ impl LinkGroup {
     }
 
     /// Makes all stores of the addition that are left.
-    pub(crate) fn run<const FIRST: u32, const SECOND: u32, C: Cells>(&mut self, cells: &mut C)
+    pub(crate) fn link_all<const FIRST: u32, const SECOND: u32, C: Cells>(&mut self, cells: &mut C)
         requires shape { IsShape FIRST SECOND }
         requires table { IsTable FIRST SECOND (C.words cells.old) }
         requires under_way { IsUnderWay FIRST SECOND (Link self.old) (C.words cells.old) }
@@ -135,7 +135,7 @@ impl LinkGroup {
             (Link self.old) cells.old None (Link self.new) cells.new }
     {
         loop {
-            match self.step::<FIRST, SECOND, C>(cells) {
+            match self.link_next::<FIRST, SECOND, C>(cells) {
                 Did::Done => return,
                 _ => {}
             }

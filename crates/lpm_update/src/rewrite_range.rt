@@ -108,7 +108,7 @@ impl RewriteRange {
 
     /// Makes the next store of the change, upwards, or none where it is done.
     #[inline(always)]
-    pub(crate) fn step<const FIRST: u32, const SECOND: u32, C: Cells>(
+    pub(crate) fn rewrite_next<const FIRST: u32, const SECOND: u32, C: Cells>(
         &mut self,
         cells: &mut C,
     ) -> Did
@@ -135,7 +135,10 @@ impl RewriteRange {
     }
 
     /// Makes all stores of the change that are left.
-    pub(crate) fn run<const FIRST: u32, const SECOND: u32, C: Cells>(&mut self, cells: &mut C)
+    pub(crate) fn rewrite_all<const FIRST: u32, const SECOND: u32, C: Cells>(
+        &mut self,
+        cells: &mut C,
+    )
         requires shape { IsShape FIRST SECOND }
         requires table { IsTable FIRST SECOND (C.words cells.old) }
         requires under_way { IsUnderWay FIRST SECOND (Range self.old) (C.words cells.old) }

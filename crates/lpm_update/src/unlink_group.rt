@@ -25,7 +25,7 @@ impl UnlinkGroup {
 
     /// Makes the next store, or none where it is done: those of the range, upwards, and then the
     /// one that unlinks the group.
-    pub(crate) fn step<const FIRST: u32, const SECOND: u32, C: Cells>(
+    pub(crate) fn unlink_next<const FIRST: u32, const SECOND: u32, C: Cells>(
         &mut self,
         cells: &mut C,
     ) -> Did
@@ -41,7 +41,7 @@ impl UnlinkGroup {
         if self.unlinked {
             return Did::Done;
         }
-        match self.range.step::<FIRST, SECOND, C>(cells) {
+        match self.range.rewrite_next::<FIRST, SECOND, C>(cells) {
             Did::Done => {}
             did => return did,
         }

@@ -161,10 +161,10 @@ impl Update {
         ensures sets { SetsWord C.words C.sets_first C.sets_second cells.old result cells.new }
     {
         match &mut self.plan {
-            Plan::Range(range) => range.step::<FIRST, SECOND, C>(cells),
-            Plan::Link(link) => link.step::<FIRST, SECOND, C>(cells),
-            Plan::Unlink(unlink) => unlink.step::<FIRST, SECOND, C>(cells),
-            Plan::Flush(flush) => flush.step::<FIRST, SECOND, C>(cells),
+            Plan::Range(range) => range.rewrite_next::<FIRST, SECOND, C>(cells),
+            Plan::Link(link) => link.link_next::<FIRST, SECOND, C>(cells),
+            Plan::Unlink(unlink) => unlink.unlink_next::<FIRST, SECOND, C>(cells),
+            Plan::Flush(flush) => flush.flush_next::<FIRST, SECOND, C>(cells),
         }
     }
 
@@ -184,11 +184,11 @@ impl Update {
     {
         match &mut self.plan {
             Plan::Range(range) => {
-                range.run::<FIRST, SECOND, C>(cells);
+                range.rewrite_all::<FIRST, SECOND, C>(cells);
                 return None;
             }
             Plan::Link(link) => {
-                link.run::<FIRST, SECOND, C>(cells);
+                link.link_all::<FIRST, SECOND, C>(cells);
                 return None;
             }
             _ => {}

@@ -25,13 +25,13 @@ pub returns-in-Range : goal.returns-in-Range
 returns-in-Range g c =
     let C = g.C.Cells in
     let same = sym c.in-Range.is ∙ c.self.view_is in
-    subst (λ x. RunsOn C.words C.sets_first C.sets_second g.row.FIRST g.row.SECOND x c.args.cells.now None (Range c.run.new.self) c.run.new.cells) same c.run.ensures
+    subst (λ x. RunsOn C.words C.sets_first C.sets_second g.row.FIRST g.row.SECOND x c.args.cells.now None (Range c.rewrite_all.new.self) c.rewrite_all.new.cells) same c.rewrite_all.ensures
 
 pub returns-in-Link : goal.returns-in-Link
 returns-in-Link g c =
     let C = g.C.Cells in
     let same = sym c.in-Link.is ∙ c.self.view_is in
-    subst (λ x. RunsOn C.words C.sets_first C.sets_second g.row.FIRST g.row.SECOND x c.args.cells.now None (Link c.run-in-Link.new.self) c.run-in-Link.new.cells) same c.run-in-Link.ensures
+    subst (λ x. RunsOn C.words C.sets_first C.sets_second g.row.FIRST g.row.SECOND x c.args.cells.now None (Link c.link_all.new.self) c.link_all.new.cells) same c.link_all.ensures
 
 pub returns-in-Unlinked : goal.returns-in-Unlinked
 returns-in-Unlinked g c =

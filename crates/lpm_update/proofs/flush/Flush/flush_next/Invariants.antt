@@ -1,6 +1,6 @@
 use Rattle.std.proofs.Common.{◌-◌, ◌≡◌, ◌^◌, ◌≤◌}
 use Rattle.lpm_update.specs.Kinds.{AllMiss}
-use Rattle.lpm_update.proofs.flush.Flush.step.Given as goal
+use Rattle.lpm_update.proofs.flush.Flush.flush_next.Given as goal
 
 -- so far all words are misses, and nothing was stored
 abbrev pub invariant-loop-self : goal.invariant-loop-self

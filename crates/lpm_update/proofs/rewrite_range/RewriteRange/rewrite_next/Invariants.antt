@@ -3,7 +3,7 @@ use Rattle.lpm_update.specs.declared.update.Plan.TheVariants.{Range}
 use Rattle.lpm_update.specs.Rewrite.{Skips}
 use Rattle.lpm_update.specs.Kinds.{IsFurther}
 use Rattle.lpm_update.specs.Update.{IsUnderWay}
-use Rattle.lpm_update.proofs.rewrite_range.RewriteRange.step.Given as goal
+use Rattle.lpm_update.proofs.rewrite_range.RewriteRange.rewrite_next.Given as goal
 
 -- so far nothing was stored
 abbrev pub invariant-loop-self : goal.invariant-loop-self

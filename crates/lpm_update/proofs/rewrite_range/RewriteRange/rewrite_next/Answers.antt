@@ -4,7 +4,7 @@ use Rattle.lpm_update.specs.Rewrite.{IsOnWords}
 use Rattle.lpm_update.specs.Kinds.{Visits}
 use Rattle.lpm_update.specs.Step.{AllowsNext, SetsWord}
 use Rattle.lpm_update.proofs.RangeSteps.{mid_allows, mid_steps}
-use Rattle.lpm_update.proofs.rewrite_range.RewriteRange.step.Goals as goal
+use Rattle.lpm_update.proofs.rewrite_range.RewriteRange.rewrite_next.Goals as goal
 
 pub visit-requires-clause-on : goal.visit-requires-clause-on
 visit-requires-clause-on g c =

@@ -9,9 +9,9 @@ use Rattle.lpm_update.specs.Step.{Steps}
 use Rattle.lpm_update.proofs.Places.{sets_first}
 use Rattle.lpm_update.proofs.Groups.{no_group_at}
 use Rattle.lpm_update.proofs.Flushes.{come_to, not_miss, flush_first, flush_unlink, flush_done}
-use Rattle.lpm_update.proofs.flush.Flush.step.Given.{Over}
-use Rattle.lpm_update.proofs.flush.Flush.step.Goals.{After-set_first}
-use Rattle.lpm_update.proofs.flush.Flush.step.Goals as goal
+use Rattle.lpm_update.proofs.flush.Flush.flush_next.Given.{Over}
+use Rattle.lpm_update.proofs.flush.Flush.flush_next.Goals.{After-set_first}
+use Rattle.lpm_update.proofs.flush.Flush.flush_next.Goals as goal
 
 -- the store that was made, the words after it, and the word before
 stored : (g : Over) (c : After-set_first g) → let W = g.C.Cells.words c.args.cells.now in

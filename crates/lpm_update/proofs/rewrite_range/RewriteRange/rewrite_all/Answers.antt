@@ -3,7 +3,7 @@ use Rattle.lpm_update.specs.declared.update.Plan.TheVariants.{Range}
 use Rattle.lpm_update.specs.Rewrite.{IsOnWords}
 use Rattle.lpm_update.proofs.Onward.{visited_same, visited_visit, visited_all}
 use Rattle.lpm_update.proofs.RangeSteps.{mid_allows}
-use Rattle.lpm_update.proofs.rewrite_range.RewriteRange.run.Goals as goal
+use Rattle.lpm_update.proofs.rewrite_range.RewriteRange.rewrite_all.Goals as goal
 
 pub loop-self-init : goal.loop-self-init
 loop-self-init g c =

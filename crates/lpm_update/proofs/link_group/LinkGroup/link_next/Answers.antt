@@ -7,9 +7,9 @@ use Rattle.lpm_update.specs.declared.update.Plan.TheVariants.{Link}
 use Rattle.lpm_update.specs.Kinds.{final_entry, filled_entry}
 use Rattle.lpm_update.specs.Step.{Steps}
 use Rattle.lpm_update.proofs.Links.{next_place, link_fill, link_link, block_small}
-use Rattle.lpm_update.proofs.link_group.LinkGroup.step.Given.{Over}
-use Rattle.lpm_update.proofs.link_group.LinkGroup.step.Goals.{After-word_for-word}
-use Rattle.lpm_update.proofs.link_group.LinkGroup.step.Goals as goal
+use Rattle.lpm_update.proofs.link_group.LinkGroup.link_next.Given.{Over}
+use Rattle.lpm_update.proofs.link_group.LinkGroup.link_next.Goals.{After-word_for-word}
+use Rattle.lpm_update.proofs.link_group.LinkGroup.link_next.Goals as goal
 
 -- the next word of the group, and its place
 next_word : (g : Over) (c : After-word_for-word g) → let u = c.args.self.now in

@@ -1,6 +1,6 @@
 use Rattle.std.proofs.Common.{◌-◌, ◌≡◌}
 use Rattle.lpm_update.proofs.Onward.{Visited}
-use Rattle.lpm_update.proofs.rewrite_range.RewriteRange.run.Given as goal
+use Rattle.lpm_update.proofs.rewrite_range.RewriteRange.rewrite_all.Given as goal
 
 abbrev pub invariant-loop-self : goal.invariant-loop-self
 invariant-loop-self g l =

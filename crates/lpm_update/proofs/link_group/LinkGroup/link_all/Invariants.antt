@@ -1,7 +1,7 @@
 use Rattle.std.proofs.Common.{◌+◌, ◌-◌, ◌^◌}
 use Rattle.lpm_update.specs.declared.update.Plan.TheVariants.{Link}
 use Rattle.lpm_update.proofs.Onward.{Advances}
-use Rattle.lpm_update.proofs.link_group.LinkGroup.run.Given as goal
+use Rattle.lpm_update.proofs.link_group.LinkGroup.link_all.Given as goal
 
 abbrev pub invariant-loop : goal.invariant-loop
 invariant-loop g l =
