@@ -38,7 +38,7 @@ initial_fib_with c R = initial_fib_at c R 0
 -- the table after a report of this worker
 abbrev pub state_after_report : ReaderReport → ℕ → FibState → FibState
 state_after_report report worker f =
-    let readers = by_counters.told report worker f.table.readers in
+    let readers = by_counters.after_report report worker f.table.readers in
     record f { table = record f.table { readers = readers } }
 
 -- what outcomes depend on, by the writer's control state and the memory
@@ -48,7 +48,7 @@ table_of control memory = state_of control.rules.rules memory.domain control.poo
 
 -- these steps of the writer may have led from the opening to the memory, and after them the control state
 -- rests; no worker holds what was given up under a token whose check has passed
-pub record IsKept (first second : ℕ) (c : InitialState) (steps : List WriterStep)
+pub record HasSteps (first second : ℕ) (c : InitialState) (steps : List WriterStep)
     (control : ControlState first second) (memory : PlainMemory first second) : Type 0 where
   pub did : PlainDid first second memory.cells memory.domain c steps
   pub rests : IsResting first second c steps control.config control.rules control.pool control.versions
@@ -57,7 +57,7 @@ pub record IsKept (first second : ℕ) (c : InitialState) (steps : List WriterSt
 -- some opening and steps have led here
 abbrev pub IsSound : (first second : ℕ) → ControlState first second → PlainMemory first second → Type 0
 IsSound first second control memory =
-    (c : InitialState) × (steps : List WriterStep) × IsKept first second c steps control memory
+    (c : InitialState) × (steps : List WriterStep) × HasSteps first second c steps control memory
 
 -- ---- a state as pairs, which comparisons of tables go by
 

@@ -245,7 +245,7 @@ is_report kinds.Offline w = refl
 is_report kinds.Quiescent w = refl
 
 pub shows_told : (c : Config) (r : Registry) (E : List Event) (report : ReaderReport) (w : ℕ) → Shows c r E → w < c.workers → (report ≡ kinds.Online → (s : ℕ) → IsRunningSince by_reports E w s → ⊥)
-    → Shows c (by_counters.told report w r) (event_of report w ∷ E)
+    → Shows c (by_counters.after_report report w r) (event_of report w ∷ E)
 shows_told c r E report w shows low fresh =
     let many = shows.workers in
     let in_range : w < length r.counters = omega (arith, many, low) in

@@ -212,7 +212,7 @@ one_reclaim c s z z' max r r' a b =
 
 -- taken, of no worker, or refused
 abbrev IsReported : Config → Book → ReaderReport → ℕ → Outcome → Book → Type 0
-IsReported c s report w o z = ((w < c.workers) × MayReport (by_intervals c) s report w × (o ≡ outcome.Told) × (z ≡ record s { readers = (by_intervals c).told report w s.readers }))
+IsReported c s report w o z = ((w < c.workers) × MayReport (by_intervals c) s report w × (o ≡ outcome.Told) × (z ≡ record s { readers = (by_intervals c).after_report report w s.readers }))
     ⊎ ((c.workers ≤ w) × (o ≡ outcome.Refused NoSuchWorker) × (z ≡ s))
     ⊎ ((w < c.workers) × (MayReport (by_intervals c) s report w → ⊥) × (o ≡ outcome.Refused (refusal_of report)) × (z ≡ s))
 

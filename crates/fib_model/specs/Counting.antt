@@ -36,7 +36,7 @@ abbrev pub by_counters : Keeping Registry
 by_counters = record {
   changes = counter_transitions;
   is_online = λ r w. IsOnline r.counters w;
-  told = λ report w r. record r { counters = slice_set r.counters w (counter_of report r.token) };
+  after_report = λ report w r. record r { counters = slice_set r.counters w (counter_of report r.token) };
 }
 
 -- a table that was just opened

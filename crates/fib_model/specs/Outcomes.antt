@@ -130,7 +130,7 @@ refusal_of Quiescent = NotOnline
 abbrev pub Reports : {X : Type 0} → Keeping X → Config → State X → ReaderReport → ℕ → Outcome → State X
     → Type 0
 Reports k c s report w outcome.Told z = (w < c.workers) × MayReport k s report w
-    × (z ≡ record s { readers = k.told report w s.readers })
+    × (z ≡ record s { readers = k.after_report report w s.readers })
 Reports k c s report w (outcome.Refused NoSuchWorker) z = (c.workers ≤ w) × (z ≡ s)
 Reports k c s report w (outcome.Refused refusal) z =
     (w < c.workers) × ¬ MayReport k s report w × (refusal ≡ refusal_of report) × (z ≡ s)

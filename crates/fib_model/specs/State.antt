@@ -32,7 +32,7 @@ pub record Keeping (X : Type 0) : Type 1 where
   pub changes : Transitions X
   -- whether the worker is online, and what is kept after its report
   pub is_online : X → ℕ → Type 0
-  pub told : ReaderReport → ℕ → X → X
+  pub after_report : ReaderReport → ℕ → X → X
 
 -- a check that only looks, by who is the first worker that holds an unlinking: it tells that
 -- worker, passes where there is none, and leaves what is kept

@@ -74,7 +74,7 @@ abbrev pub by_intervals : Config → Keeping (List Event)
 by_intervals c = record {
   changes = textbook c;
   is_online = λ events w. (start : ℕ) × IsRunningSince by_reports events w start;
-  told = λ report w events. event_of report w ∷ events;
+  after_report = λ report w events. event_of report w ∷ events;
 }
 
 -- nothing has happened

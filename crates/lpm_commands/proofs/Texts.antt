@@ -30,7 +30,7 @@ use Rattle.fib_model.specs.Outcomes.{Adds}
 use Rattle.fib_model.specs.Counting.{counter_transitions, initial_by_counters}
 use Rattle.std.proofs.lemmas.List.Elements.{All-cons, All-nil}
 use Rattle.storm.specs.declared.plan.Plan.{Plan}
-use Rattle.storm.specs.Changing.{IsForWriter}
+use Rattle.storm.specs.Writer.{IsForWriter}
 use Rattle.storm.specs.Storm.{limits_of}
 use Rattle.lpm_commands.specs.Filled.{rule_of}
 use Rattle.lpm_commands.specs.Storm.{AreLoaded, is_change, changes_of, IsPlanOf, IsTextOver, IsStormText, EndsAfter, EndsOver, EndsRunning, EndsStormRun}

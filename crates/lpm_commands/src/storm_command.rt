@@ -5,7 +5,7 @@ ghost use Rattle.lpm_rules.specs.RuleMap.{rules_of};
 ghost use Rattle.shared_fib.specs.Passes.{IsFullBench};
 ghost use Rattle.shared_fib.specs.Running.{initial_writer};
 ghost use Rattle.lpm_files.specs.Output.{Writes, WritesBeginning};
-ghost use Rattle.storm.specs.Changing.{IsForWriter};
+ghost use Rattle.storm.specs.Writer.{IsForWriter};
 ghost use Rattle.storm.specs.Storm.{EndsStorm, IsInRange, IsStorm, limits_of};
 ghost use Rattle.lpm_commands.specs.Loading.{rules_of_routes};
 ghost use Rattle.lpm_commands.specs.Storm.{IsStormText, IsTextAfter, IsTextOf, IsTextOver, ending_of, with_versions};

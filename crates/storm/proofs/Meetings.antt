@@ -6,8 +6,8 @@ use Rattle.std.proofs.lemmas.List.{get_or-append-add, get_or-map, get_or_append_
 use Rattle.std.proofs.lemmas.Option.{get_or_from_slice_get, slice_get_within}
 use Rattle.shared_fib.specs.Passes.{PassState}
 use Rattle.bulk.proofs.Meetings.{others_stay}
-use Rattle.storm.specs.Looking.{AreInSeats, AreOfWorkers, EachAt, IsUnused}
-use Rattle.storm.specs.declared.looking.Worker.{Worker}
+use Rattle.storm.specs.Workers.{AreInSeats, AreOfWorkers, EachAt, IsUnused}
+use Rattle.storm.specs.declared.workers.Worker.{Worker}
 
 -- the elements before place i have come to P, and the others are Q still
 pub record UpTo {X : Type 0} (P Q : X → Type 0) (i : ℕ) (xs : List X) : Type 0 where

@@ -17,15 +17,15 @@ use Rattle.shared_fib.specs.Running.{Identity, initial_state, WriterState, steps
 use Rattle.shared_fib.specs.Passes.{PassState, IsHistory, LooksUp, Makes}
 use Rattle.shared_fib.proofs.Lookups.{finished_more}
 use Rattle.shared_fib.proofs.Backwards.{of_shown, of_version_still, shown}
-use Rattle.storm.specs.Looking.{HasLookedUp, IsOfAStandingVersion, answer_of, answers_by, lookups_of, times, HasAnswered, answers_of_passes, answers_of_workers}
+use Rattle.storm.specs.Workers.{HasLookedUp, IsOfAStandingVersion, answer_of, answers_by, lookups_of, times, HasAnswered, answers_of_passes, answers_of_workers}
 use Rattle.lpm_rules.specs.declared.Change.{Change}
 use Rattle.lpm_rules.specs.RuleMap.{RuleMap}
 use Rattle.lpm_writer.specs.Making.{HasWidths}
 use Rattle.audit.specs.Wrong.{IsOfSomeVersion}
-use Rattle.storm.specs.Changing.{HasVersions}
+use Rattle.storm.specs.Writer.{HasVersions}
 use Rattle.storm.proofs.Versions.{answer_is_right}
 use Rattle.storm.proofs.Meetings.{passes_of}
-use Rattle.storm.specs.declared.looking.Worker.{Worker}
+use Rattle.storm.specs.declared.workers.Worker.{Worker}
 
 -- the answers are those of the pass, each of whose lookups is of a version
 abbrev pub AreTold : InitialState → PassState → List (ℕ × Answer) → Type 0

@@ -15,7 +15,7 @@ use Rattle.lpm_rules.specs.declared.Put.TheVariants.{Added, Replaced, Unchanged}
 use Rattle.fib_model.specs.declared.orders.Order.{Order}
 use Rattle.fib_model.specs.declared.orders.Outcome.{Outcome}
 use Rattle.audit.specs.Wrong.{AreWrong, IsOfSomeVersion, version_of, version_from}
-use Rattle.storm.specs.Changing.{addition_of, change_by, changes_by, IsForWriter, HasVersions, by_own_steps}
+use Rattle.storm.specs.Writer.{addition_of, change_by, changes_by, IsForWriter, HasVersions, by_own_steps}
 use Rattle.lpm_limits.specs.declared.config.Config.{Config}
 use Rattle.fib_model.specs.State.{State, Keeping}
 use Rattle.fib_model.specs.Outcomes.{Does}
@@ -32,7 +32,7 @@ use Rattle.lpm_trace.proofs.Traces.{begun_grows}
 use Rattle.lpm_writer.specs.Making.{HasWidths}
 use Rattle.shared_fib.specs.Running.{Identity, IsAtRest, WriterState, state_of_writer, initial_writer, initial_state, steps_of, by_steps}
 use Rattle.shared_fib.proofs.Backwards.{versions_stay}
-use Rattle.storm.specs.Looking.{IsOfAStandingVersion, answer_of}
+use Rattle.storm.specs.Workers.{IsOfAStandingVersion, answer_of}
 use Rattle.storm.specs.Storm.{Settles}
 use Rattle.fib_model.specs.declared.orders.Order.TheVariants as order
 use Rattle.fib_model.specs.declared.orders.Outcome.TheVariants as outcome

@@ -1,4 +1,4 @@
-pub mod Changing
-pub mod Looking
+pub mod Writer
+pub mod Workers
 pub mod Threads
 pub mod Storm

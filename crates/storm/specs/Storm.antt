@@ -7,7 +7,7 @@ use Rattle.fib_model.specs.declared.orders.Outcome.{Outcome}
 use Rattle.shared_fib.specs.Running.{Identity, WriterState, token_of, IsAtRest, by_steps, steps_of}
 use Rattle.storm.specs.declared.plan.Plan.{Plan}
 use Rattle.storm.specs.declared.plan.StormError.{StormError}
-use Rattle.storm.specs.Changing.{HasMade, changes_by, refused_among}
+use Rattle.storm.specs.Writer.{HasMade, changes_by, refused_among}
 use Rattle.std.specs.FinMap.{len}
 use Rattle.fib_model.specs.Outcomes.{Frees, groups_in_use}
 use Rattle.lpm_writer.specs.Steps.{Synchronizes}
@@ -16,7 +16,7 @@ use Rattle.shared_fib.specs.Passes.{PassState}
 use Rattle.audit.specs.declared.report.TableCounts.{TableCounts}
 use Rattle.audit.specs.declared.report.StormReport.{StormReport}
 use Rattle.audit.specs.Wrong.{AreWrong, IsOfSomeVersion}
-use Rattle.storm.specs.Looking.{AreOfWorkers, HasLookedUp, answers_of_passes}
+use Rattle.storm.specs.Workers.{AreOfWorkers, HasLookedUp, answers_of_passes}
 use Rattle.lpm_limits.specs.declared.refusal.Refusal.TheVariants as refusals
 use Rattle.fib_model.specs.declared.orders.Outcome.TheVariants as outcome
 use Rattle.storm.specs.declared.plan.StormError.TheVariants as errors

@@ -3,8 +3,8 @@ use Rattle.std.specs.Prelude.{ℕ, ◌≡◌, List}
 use Rattle.lpm_limits.specs.declared.config.Config.{Config}
 use Rattle.fib_model.specs.declared.orders.Order.{Order}
 use Rattle.shared_fib.specs.Running.{Identity}
-use Rattle.storm.specs.declared.changing.Updates.{Updates}
-use Rattle.storm.specs.declared.looking.Lookups.{Lookups}
+use Rattle.storm.specs.declared.writer.Updates.{Updates}
+use Rattle.storm.specs.declared.workers.Lookups.{Lookups}
 
 -- these lookups by this table, of the worker of this number
 pub record AreLookups {first second : ℕ} (id : Identity) (addrs : List ℕ) (rounds : ℕ)

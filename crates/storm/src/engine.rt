@@ -5,17 +5,15 @@ ghost use Rattle.lpm_rules.specs.RuleMap.{rules_of};
 ghost use Rattle.shared_fib.specs.Passes.{IsBenchOf, IsFullBench};
 ghost use Rattle.shared_fib.specs.Running.{initial_writer};
 ghost use Rattle.bulk.specs.Desks.{IsAtBench};
-ghost use Rattle.storm.specs.Changing.{HasMade, IsForWriter};
-ghost use Rattle.storm.specs.Looking.{AreInSeats, IsOver, IsReadyFor, IsUnused, number_of};
+ghost use Rattle.storm.specs.Writer.{HasMade, IsForWriter};
+ghost use Rattle.storm.specs.Workers.{AreInSeats, IsOver, IsReadyFor, IsUnused, number_of};
 ghost use Rattle.storm.specs.Storm.{EndsStorm, HasMadeAll, IsInRange, answer_count, limits_of, most_answers, IsStorm};
 
-use crate::changing::Recorder;
-use crate::looking::Worker;
+use crate::finish::{count_refused, count_wrong_answers, history_of, meet_all, report_of, settle};
 use crate::plan::{Plan, StormError};
-use crate::settling::{
-    count_refused, count_wrong_answers, history_of, meet_all, report_of, settle,
-};
 use crate::threads::run_threads;
+use crate::workers::Worker;
+use crate::writer::Recorder;
 use audit::StormReport;
 use bulk::Gate;
 use lpm_limits::Config;

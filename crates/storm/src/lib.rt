@@ -2,12 +2,12 @@
 //! changes the table on another. Then every answer is held against the versions of the rules.
 #![tactic(auto)]
 
-mod changing;
 mod engine;
-mod looking;
+mod finish;
 mod plan;
-mod settling;
 mod threads;
+mod workers;
+mod writer;
 
 pub use engine::run;
 pub use plan::{MOST_ANSWERS, Plan, StormError};

@@ -5,13 +5,13 @@
 
 ghost use Rattle.std.specs.Prelude.{◌≡◌, ◌≢◌, ◌⊎◌, ◌+◌, ◌*◌, ◌^◌, ◌<◌, ◌≤◌, All, IfErr, IfOk, IfSome, IsTrue, length, true, vec_capacity, vec_len};
 ghost use Rattle.std.specs.Thread.{IsSync};
-ghost use Rattle.storm.specs.Changing.{HasMade, IsForWriter};
-ghost use Rattle.storm.specs.Looking.{AreInSeats, EachAt, IsOver, IsReadyFor, number_of};
+ghost use Rattle.storm.specs.Writer.{HasMade, IsForWriter};
+ghost use Rattle.storm.specs.Workers.{AreInSeats, EachAt, IsOver, IsReadyFor, number_of};
 ghost use Rattle.storm.specs.Threads.{AreLookups, AreUpdates};
 
-use crate::changing::{Recorder, Updates, change_all};
-use crate::looking::{Lookups, Worker, work};
 use crate::plan::StormError;
+use crate::workers::{Lookups, Worker, work};
+use crate::writer::{Recorder, Updates, change_all};
 use bulk::Gate;
 use fib_model::{Order, Outcome};
 use lpm_limits::{Config, Refusal};

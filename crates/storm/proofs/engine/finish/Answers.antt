@@ -7,9 +7,9 @@ use Rattle.shared_fib.specs.Running.{WriterState, steps_of, token_of}
 use Rattle.audit.specs.Wrong.{AreWrong, version_of}
 use Rattle.fib_model.specs.declared.orders.Outcome.{Outcome}
 use Rattle.std.proofs.lemmas.List.{length-map}
-use Rattle.storm.specs.Changing.{HasVersions, addition_of, changes_by, refused_among}
-use Rattle.storm.specs.Looking.{answers_of_passes, answers_of_workers, times}
-use Rattle.storm.specs.declared.looking.Worker.{Worker}
+use Rattle.storm.specs.Writer.{HasVersions, addition_of, changes_by, refused_among}
+use Rattle.storm.specs.Workers.{answers_of_passes, answers_of_workers, times}
+use Rattle.storm.specs.declared.workers.Worker.{Worker}
 use Rattle.storm.specs.Storm.{Settles}
 use Rattle.storm.proofs.Told.{addresses_of, all_held, all_looked, all_of_addresses, all_right, all_times, count_all}
 use Rattle.storm.proofs.Versions.{changes_behind, changes_within, first_version, none_wrong, rules_within, settled_versions}

@@ -1,9 +1,9 @@
 use Rattle.std.proofs.Common.{arith, lit<, ℕ, ◌≡◌, ◌+◌, ap, subst, sym, true, All, Bool, List, length}
 use Rattle.std.specs.Prelude.{cond}
 use Rattle.lpm_limits.specs.declared.config.Config.{Config}
-use Rattle.storm.specs.declared.looking.Worker.{Worker}
-use Rattle.storm.specs.Looking.{AreInSeats, IsOver}
-use Rattle.storm.specs.Changing.{HasMade}
+use Rattle.storm.specs.declared.workers.Worker.{Worker}
+use Rattle.storm.specs.Workers.{AreInSeats, IsOver}
+use Rattle.storm.specs.Writer.{HasMade}
 use Rattle.storm.specs.Storm.{HasMadeAll}
 use Rattle.storm.proofs.engine.run.Goals as goal
 

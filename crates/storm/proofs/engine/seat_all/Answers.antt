@@ -1,7 +1,7 @@
 use Rattle.std.proofs.Common.{◌≡◌, length, ℕ, ◌+◌, List, All, ap, subst, sym, ◌∙◌, arith, lit<}
 use Rattle.std.proofs.lemmas.List.Elements.{All-nil, All-push}
-use Rattle.storm.specs.Looking.{AreInSeats, IsReadyFor, number_of}
-use Rattle.storm.specs.declared.looking.Worker.{Worker}
+use Rattle.storm.specs.Workers.{AreInSeats, IsReadyFor, number_of}
+use Rattle.storm.specs.declared.workers.Worker.{Worker}
 use Rattle.storm.proofs.Meetings.{each_push, stays_unused}
 use Rattle.std.proofs.lemmas.Grind.{common_steps}
 use Rattle.storm.proofs.engine.seat_all.Goals as goal

@@ -1,6 +1,6 @@
 use Rattle.std.proofs.Common.{◌≡◌, ℕ, ◌<◌, ◌≤◌, All, vec_len, vec_capacity}
 use Rattle.shared_fib.specs.Passes.{IsBenchOf}
-use Rattle.storm.specs.Looking.{AreInSeats, IsReadyFor, IsUnused}
+use Rattle.storm.specs.Workers.{AreInSeats, IsReadyFor, IsUnused}
 use Rattle.storm.proofs.engine.seat_all.Given as goal
 
 -- the workers so far are seated, and the passes of the others wait at the bench

@@ -1,10 +1,10 @@
 use Rattle.std.proofs.Common.{◌≡◌, ◌+◌, ◌∙◌, arith, ℕ, All, List, [], ◌∷◌, rules, sym, subst}
 use Rattle.std.proofs.lemmas.List.Elements.{All-append, All-cons}
 use Rattle.shared_fib.specs.Running.{Identity}
-use Rattle.storm.specs.Looking.{IsOver}
+use Rattle.storm.specs.Workers.{IsOver}
 use Rattle.storm.specs.Threads.{AreLookups}
-use Rattle.storm.specs.declared.looking.Worker.{Worker}
-use Rattle.storm.specs.Looking.{AreInSeats, number_of}
+use Rattle.storm.specs.declared.workers.Worker.{Worker}
+use Rattle.storm.specs.Workers.{AreInSeats, number_of}
 use Rattle.storm.proofs.Meetings.{each_push}
 use Rattle.storm.proofs.threads.join_workers.Goals as goal
 

@@ -1,6 +1,6 @@
 use Rattle.std.proofs.Common.{◌≡◌, ◌+◌, ◌≤◌, All, vec_len, vec_capacity}
 use Rattle.std.specs.Vec.Iter.{into_iter_items, into_iter_len}
-use Rattle.storm.specs.Looking.{AreInSeats, EachAt, IsOver}
+use Rattle.storm.specs.Workers.{AreInSeats, EachAt, IsOver}
 use Rattle.storm.specs.Threads.{AreLookups}
 use Rattle.storm.proofs.threads.join_workers.Given as goal
 

@@ -1,7 +1,7 @@
 use Rattle.std.proofs.Common.{◌≡◌, ◌+◌, arith, lit<, All, [], ◌∷◌, rules, sym, subst}
 use Rattle.std.proofs.lemmas.List.Elements.{All-append, All-cons}
 use Rattle.storm.specs.Threads.{AreLookups}
-use Rattle.storm.specs.Looking.{EachAt}
+use Rattle.storm.specs.Workers.{EachAt}
 use Rattle.storm.proofs.Meetings.{each_push}
 use Rattle.storm.proofs.threads.start_workers.Goals as goal
 

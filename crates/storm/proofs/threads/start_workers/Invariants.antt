@@ -1,6 +1,6 @@
 use Rattle.std.proofs.Common.{◌≡◌, ◌+◌, ◌*◌, ◌≤◌, All, length, vec_len, vec_capacity}
 use Rattle.std.specs.Vec.Iter.{into_iter_items, into_iter_len}
-use Rattle.storm.specs.Looking.{EachAt, IsReadyFor, number_of}
+use Rattle.storm.specs.Workers.{EachAt, IsReadyFor, number_of}
 use Rattle.storm.specs.Threads.{AreLookups}
 use Rattle.storm.proofs.threads.start_workers.Given as goal
 

@@ -1,0 +1,24 @@
+use Rattle.std.proofs.Common.{◌≡◌, ◌<◌, ◌∙◌, true, arith, length, length-set, subst}
+use Rattle.shared_fib.specs.Running.{WriterState, steps_of}
+use Rattle.storm.specs.Workers.{HasAnswered, IsOver, number_of}
+use Rattle.storm.specs.declared.workers.Worker.{Worker}
+use Rattle.storm.proofs.Meetings.{each_set, one_more}
+use Rattle.storm.proofs.finish.meet_all.Goals as goal
+
+pub loop-number-preserved : goal.loop-number-preserved
+loop-number-preserved g c =
+    let was = c.loop-number.invariant in
+    let id = c.args.table.now in
+    let addrs = c.args.addrs.now in
+    let rounds = c.args.rounds in
+    let worker = c.meet_worker.new.worker in
+    let now = subst (λ (w : WriterState). HasAnswered id addrs rounds (steps_of w) worker) was.same c.meet_worker.ensures.answered in
+    let low : c.loop-number.number < length c.loop-number.workers = omega (arith, c.loop-number-test.true, was.len) in
+    record {
+      same = c.meet_worker.ensures.same ∙ was.same;
+      len = length-set c.loop-number.workers c.loop-number.number worker ∙ was.len;
+      seats = each_set (λ k w. number_of w ≡ k) c.loop-number.workers c.loop-number.number worker low was.seats
+          (c.meet_worker.ensures.seat ∙ was.seats c.loop-number.number c.index-workers-number.result low);
+      met = one_more (HasAnswered id addrs rounds (steps_of c.args.writer.now)) (λ (w : Worker). IsOver id addrs rounds w × (w.is_done ≡ true))
+          c.loop-number.number c.loop-number.workers worker low was.met now;
+    }
