@@ -180,14 +180,15 @@ abbrev pub ShowsFinished : List TraceStep → List Seen → Type 0
 ShowsFinished steps lookups = (worker : ℕ) → seen_of worker lookups
     ≡ reverse (map (seen_by worker) (worker_of worker steps).finished)
 
--- a table that was just opened with limits in range is one that traces begin with, and what its writer keeps agrees
--- with its steps, of which there are none
+-- a table that was just opened with limits in range is one that traces begin with, and what its writer
+-- keeps agrees with its steps, of which there are none
 abbrev pub InitialStatesAreSettled : Type 0
 InitialStatesAreSettled = (f g : ℕ) (config : Config) → IsConfig config
     → IsSettled (blank_state f g config) × AgreesWithSteps f g (blank_state f g config) initial_state_by_steps
 
 -- the steps of each run are lawful, it shows what its workers have finished, and after the last change
--- that was answered what the writer keeps agrees with its steps: the groups linked are the blocks of its rules
+-- that was answered what the writer keeps agrees with its steps: the groups linked are the blocks of its
+-- rules
 abbrev pub RunsAreLawful : Type 0
 RunsAreLawful = (f g : ℕ) (config : Config) (script : List (Change f g)) (scripts : ℕ → List Deed)
     (schedule : List Actor) (shown : Trace) → IsConfig config

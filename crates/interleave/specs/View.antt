@@ -25,7 +25,7 @@ pub record WorldView : Type 0 where
 -- what a memory keeps whatever its writer does: a token of at most 2^62, a script for each worker,
 -- fewer items than 2^63, at most one step for each that is used up, at most four lookups that the step
 -- finishes, and room for the steps and the lookups of all
-pub record IsKept (token machines scripts items next steps steps_room seen seen_room : ℕ) : Type 0 where
+pub record IsSoundMemory (token machines scripts items next steps steps_room seen seen_room : ℕ) : Type 0 where
   pub token_low : token ≤ 2 ^ 62
   pub as_many : machines ≡ scripts
   pub within : next ≤ items

@@ -34,7 +34,7 @@ pub struct WorldMemory<'a, const FIRST: u32, const SECOND: u32> {
 
 impl<'a, const FIRST: u32, const SECOND: u32> Model for WorldMemory<'a, FIRST, SECOND> {
     ghost use Rattle.std.specs.Prelude.{length, map, vec_len, vec_capacity};
-    ghost use Rattle.interleave.specs.View.{WorldView, IsKept};
+    ghost use Rattle.interleave.specs.View.{WorldView, IsSoundMemory};
 
     ghost Value = { WorldView };
 
@@ -51,7 +51,7 @@ impl<'a, const FIRST: u32, const SECOND: u32> Model for WorldMemory<'a, FIRST, S
       stopped = a.stopped;
     } };
 
-    ghost invariant = { λ a. IsKept a.shared.token (vec_len a.workers) (length a.scripts.now)
+    ghost invariant = { λ a. IsSoundMemory a.shared.token (vec_len a.workers) (length a.scripts.now)
         (length a.schedule.now) a.next (vec_len a.steps) (vec_capacity a.steps) (vec_len a.seen)
         (vec_capacity a.seen) };
 }

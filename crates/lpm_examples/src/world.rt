@@ -1,9 +1,11 @@
 //! One writer and one worker of the pure world, who make their steps by a schedule.
 
 use anyhow::{Result, ensure};
-use interleave::{Actor, Change, Deed, Trace, World, script_ok};
+use interleave::{Trace, World, script_ok};
 use lpm_bits::{Hop, Prefix};
 use lpm_limits::Config;
+use lpm_rules::Change;
+use lpm_trace::{Actor, Deed};
 use std::alloc::{AllocError, Global};
 use std::rt::Clock;
 use std::time::Instant;

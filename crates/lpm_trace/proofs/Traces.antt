@@ -6,7 +6,7 @@ use Rattle.lpm_trace.specs.declared.step.WriterStep.{WriterStep}
 use Rattle.lpm_trace.specs.declared.step.WriterStep.TheVariants.{StoreFirst, StoreSecond, BeginUpdate, EndUpdate, BumpToken, LoadCounter}
 use Rattle.lpm_trace.specs.declared.step.TraceStep.{TraceStep}
 use Rattle.lpm_trace.specs.declared.step.TraceStep.TheVariants.{Writer, Worker as ByWorker}
-use Rattle.lpm_trace.specs.States.{InitialState, TableState, IsSettled, addresses, with_at, answer, IsAnswer, updates_done_in, updates_begun_in, version, rules_by, state_by_step, starting_state, oldest, state_after, state_at, MayWrite}
+use Rattle.lpm_trace.specs.States.{InitialState, TableState, IsSettled, addresses, with_at, answer, IsAnswer, updates_done_in, updates_begun_in, version, rules_by, state_by_step, initial_table_state, oldest, state_after, state_at, MayWrite}
 use Rattle.lpm_trace.specs.Trace.{Worker, Probe, Unread, InGroup, Answered, FinishedLookup, initial_worker, worker_by_step, MayRead, IsRunning, MayCome, after, IsTrace, writes, own_steps, worker_by}
 use Rattle.lpm_trace.specs.Laws.{IsLegalAtPlace, OwnLookupsAreLegal, ArePlaced, OwnStepsArePlaced, VersionsNeverFallAtPlaces, PlacesNeverFall, TraceGrows}
 use Rattle.lpm_trace.proofs.Versions.{by_number, Each, each_map, with_at_case, each_all, Shows, keeps_shows, opening_shows, version_ge, version_le, rises, sequence_grows, history_stays, tick}
@@ -111,10 +111,10 @@ begun_grows c (s ∷ ws) t = oldest_case (λ l. updates_begun_in (state_after c 
     (λ _. omega arith)
     (λ _. omega (arith, begun_grows c ws t, sequence_grows c (state_after c ws) s))
 
-unstarted_ok : (c : InitialState) (k : ℕ) → WorkerOk c (told_by c []) (hi_by c []) (starting_state c) k initial_worker
+unstarted_ok : (c : InitialState) (k : ℕ) → WorkerOk c (told_by c []) (hi_by c []) (initial_table_state c) k initial_worker
 unstarted_ok c k = record { inside = λ run. absurd run; counter = omega arith; loaded = tt; since = omega arith; grace = λ run. absurd run; idle = refl; low = tt; probes = tt; finished = tt }
 
-start_good : (c : InitialState) → IsSettled c → Good c (told_by c []) (hi_by c []) (starting_state c) (after c []).workers
+start_good : (c : InitialState) → IsSettled c → Good c (told_by c []) (hi_by c []) (initial_table_state c) (after c []).workers
 start_good c settled = record {
   token = settled.token;
   passed = omega arith;

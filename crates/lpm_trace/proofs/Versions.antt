@@ -2,7 +2,7 @@
 use Rattle.std.proofs.Common.{◌≡◌, ℕ, ◌≢◌, ◌<◌, inl, inr, cond, eq-eqb, List, [], ◌∷◌, length, slice_index, slice_set, All, refl, sym, ap, subst, ◌∙◌, get_or-set_same, get_or-set_other, suc, eqb, ◌&&◌, max, arith, ◌+◌, ◌/◌, ◌%◌, ◌≤◌, ◌⊎◌, Bool, true, false, Option, Some, None}
 use Rattle.std.proofs.lemmas.Bool.Decides.{eqb_tells}
 use Rattle.std.proofs.lemmas.List.Elements.{All-nil, All-cons}
-use Rattle.lpm_trace.specs.States.{with_at, InitialState, state_after, lets_pass, TableState, IsSettled, addresses, answer, IsAnswer, updates_done_in, updates_begun_in, version, rules_by, is_same, answer_changed_by, state_by_step, starting_state, Moves, MayWrite}
+use Rattle.lpm_trace.specs.States.{with_at, InitialState, state_after, lets_pass, TableState, IsSettled, addresses, answer, IsAnswer, updates_done_in, updates_begun_in, version, rules_by, is_same, answer_changed_by, state_by_step, initial_table_state, Moves, MayWrite}
 use Rattle.std.proofs.lemmas.List.{length-set}
 use Rattle.lpm_trace.specs.declared.step.WriterStep.{WriterStep}
 use Rattle.lpm_trace.specs.declared.step.WriterStep.TheVariants.{StoreFirst, StoreSecond, BeginUpdate, EndUpdate, BumpToken, LoadCounter}
@@ -143,7 +143,7 @@ keeps_shows c counters w shows EndUpdate may =
     }
 keeps_shows c counters w shows s may = record { still = shows.still; shown = shows.shown }
 
-pub opening_shows : (c : InitialState) → IsSettled c → Shows c (starting_state c)
+pub opening_shows : (c : InitialState) → IsSettled c → Shows c (initial_table_state c)
 opening_shows c settled = record { still = λ even a. refl; shown = settled.answers }
 
 cond_ge : (b : Bool) (x y : ℕ) → x ≤ y → x ≤ cond b y x

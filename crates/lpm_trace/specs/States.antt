@@ -166,8 +166,8 @@ state_by_step c w (LoadCounter token worker counter) = record w {
   passed = cond (lets_pass token counter && eqb (suc worker) c.workers) (max w.passed token) w.passed;
 }
 
-abbrev pub starting_state : InitialState → TableState
-starting_state c = record {
+abbrev pub initial_table_state : InitialState → TableState
+initial_table_state c = record {
   clock = 0;
   words = c.words;
   sequence = 0;
@@ -182,7 +182,7 @@ starting_state c = record {
 
 -- the tables after these steps of the writer, of which the newest stands first
 abbrev pub state_after : InitialState → List WriterStep → TableState
-state_after c [] = starting_state c
+state_after c [] = initial_table_state c
 state_after c (s ∷ steps) = state_by_step c (state_after c steps) s
 
 -- the first t of these, of which the newest stands first

@@ -6,7 +6,7 @@ use Rattle.lpm_cells.specs.declared.entry.Entry.TheVariants.{Miss, Hop, Group}
 use Rattle.lpm_cells.specs.Words.{entry_in, hop_in}
 use Rattle.lpm_trace.specs.declared.step.WorkerStep.{WorkerStep}
 use Rattle.lpm_trace.specs.declared.step.WorkerStep.TheVariants.{LoadOnline, StoreOnline, LoadQuiescent, StoreQuiescent, StoreOffline, BeginLookup, LoadFirst, LoadSecond, EndLookup, MeetWriter}
-use Rattle.lpm_trace.specs.States.{InitialState, TableState, addresses, done_at, begun_at, with_at, state_by_step, starting_state, MayWrite}
+use Rattle.lpm_trace.specs.States.{InitialState, TableState, addresses, done_at, begun_at, with_at, state_by_step, initial_table_state, MayWrite}
 use Rattle.lpm_trace.specs.declared.step.WriterStep.{WriterStep}
 use Rattle.lpm_trace.specs.declared.step.TraceStep.{TraceStep}
 use Rattle.lpm_trace.specs.declared.step.TraceStep.TheVariants.{Writer, Worker as ByWorker}
@@ -187,7 +187,7 @@ MayCome c w (ByWorker k s) = (k < c.workers) × MayRead c w.state (w.workers k) 
 
 -- the world after these steps
 abbrev pub after : InitialState → List TraceStep → World
-after c [] = record { state = starting_state c; progress = initial_progress; workers = λ k. initial_worker }
+after c [] = record { state = initial_table_state c; progress = initial_progress; workers = λ k. initial_worker }
 after c (s ∷ steps) = apply c (after c steps) s
 
 -- each step may come after those before it

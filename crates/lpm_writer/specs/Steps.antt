@@ -17,8 +17,8 @@ Loads zero x token z = z ≡ x
 Loads (suc n) x token z = (y : List WriterStep) × (counter : ℕ) × Loads n x token y
     × (lets_pass token counter ≡ true) × (z ≡ LoadCounter token n counter ∷ y)
 
--- the workers' counters were loaded one after another: each let the token pass, or the first that didn't stopped
--- the check
+-- the workers' counters were loaded one after another: each let the token pass, or the first that didn't
+-- stopped the check
 abbrev pub LoadsUntilStopped : ℕ → List WriterStep → ℕ → Result (Unit {0}) Busy → List WriterStep → Type 0
 LoadsUntilStopped workers x token (Ok passed) z = Loads workers x token z
 LoadsUntilStopped workers x token (Err busy) z = (y : List WriterStep) × Loads busy.worker x token y

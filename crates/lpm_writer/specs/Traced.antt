@@ -30,8 +30,8 @@ Loads does zero x token z = z ≡ x
 Loads {M} does (suc n) x token z = (y : WithSteps M) × (counter : ℕ) × Loads does n x token y
     × (lets_pass token counter ≡ true) × Goes does y (LoadCounter token n counter) z
 
--- the workers' counters were loaded one after another: each let the token pass, or the first that didn't stopped
--- the check
+-- the workers' counters were loaded one after another: each let the token pass, or the first that didn't
+-- stopped the check
 abbrev pub LoadsUntilStopped : {M : Type 0} → (M → WriterStep → M → Type 0) → ℕ → WithSteps M → ℕ
     → Result (Unit {0}) Busy → WithSteps M → Type 0
 LoadsUntilStopped does workers x token (Ok passed) z = Loads does workers x token z

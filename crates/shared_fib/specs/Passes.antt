@@ -137,11 +137,5 @@ coded_pass = code_by (Identity × (ℕ × (Bool × (List (WorkerStep × ℕ) × 
     (coded× coded_identity (coded× coded_ℕ (coded× coded_bool
     (coded× (coded_list (coded× worker_row.the_row.coded coded_ℕ)) (coded_list writer_row.the_row.coded)))))
     (λ p. (p.table, (p.worker, (p.online, (p.steps, p.writer_steps)))))
-    (λ z. record {
-      table = z.0;
-      worker = z.1.0;
-      online = z.1.1.0;
-      steps = z.1.1.1.0;
-      writer_steps = z.1.1.1.1;
-    })
+    (λ z. record { table = z.0; worker = z.1.0; online = z.1.1.0; steps = z.1.1.1.0; writer_steps = z.1.1.1.1 })
     (λ _. refl)

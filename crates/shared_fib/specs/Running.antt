@@ -105,8 +105,8 @@ initial_writer id config rules = record {
 abbrev pub state_by : {first second : ℕ} → ControlState first second → View → State (List WriterStep)
 state_by control v = state_of control.rules.rules v.writer_steps control.pool control.versions
 
--- A writer between its commands: after the steps of its seat the control state rests, and the tokens are not past
--- their bound
+-- A writer between its commands: after the steps of its seat the control state rests, and the tokens are
+-- not past their bound
 pub record IsSoundWriter (first second : ℕ) (control : ControlState first second) (v : View) : Type 0 where
   pub rests : Rests (initial_state_of v.initial) v.writer_steps control
   pub token : (state_after (initial_state_of v.initial) v.writer_steps).token ≤ 2 ^ 62

@@ -1,7 +1,7 @@
 //! The lookups of a worker, and whether an answer is one of a version that stood meanwhile.
 
 use super::InitialState;
-use super::deeds::{Numbered, course_of, group_read};
+use super::deeds::{Numbered, group_read, progress_of};
 use super::memory::hop_in;
 use super::moment::Moment;
 use super::versions::{Versions, is_answer};
@@ -77,7 +77,7 @@ pub fn lookups(
     worker: usize,
     deeds: &[Deed],
 ) -> Result<Vec<Seen>, AllocError> {
-    Ok(course_of(alloc, initial, steps, worker, deeds)?.lookups)
+    Ok(progress_of(alloc, initial, steps, worker, deeds)?.lookups)
 }
 
 /// Whether the version is one from `lo` to `hi`, and its answer is the one that was seen.

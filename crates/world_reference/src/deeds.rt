@@ -165,7 +165,7 @@ fn length_of(
 
 /// How far a worker has come with its deeds.
 #[derive(Drop)]
-pub(crate) struct Course {
+pub(crate) struct WorkerProgress {
     /// How many steps it has made.
     pub(crate) made: usize,
     /// How many steps its deeds make; none where its steps are those of other deeds.
@@ -174,7 +174,7 @@ pub(crate) struct Course {
     pub(crate) lookups: Vec<Seen>,
 }
 
-impl Course {
+impl WorkerProgress {
     /// Whether the steps are, in order, those of the deeds, of which the last that has begun may be
     /// unfinished.
     pub(crate) fn is_right(&self) -> bool {
@@ -186,19 +186,19 @@ impl Course {
 }
 
 /// How far the worker has come with these deeds.
-pub(crate) fn course_of(
+pub(crate) fn progress_of(
     alloc: Global,
     initial: &InitialState,
     steps: &[Step],
     worker: usize,
     deeds: &[Deed],
-) -> Result<Course, AllocError> {
+) -> Result<WorkerProgress, AllocError> {
     let own = own_steps(alloc, steps, Actor::Worker(worker))?;
     let mut lookups = Vec::new(alloc);
     let start = Moment::new(initial, steps, 0);
     let due = follow(alloc, start, worker, deeds, &own, &mut lookups)?;
     let made = own.len();
-    Ok(Course { made, due, lookups })
+    Ok(WorkerProgress { made, due, lookups })
 }
 
 /// How many steps the deeds make, where these are the worker's own; none where they are those of other
@@ -234,7 +234,7 @@ pub fn deeds_are_done(
     worker: usize,
     deeds: &[Deed],
 ) -> Result<bool, AllocError> {
-    Ok(course_of(alloc, initial, steps, worker, deeds)?.is_right())
+    Ok(progress_of(alloc, initial, steps, worker, deeds)?.is_right())
 }
 
 /// Whether a worker that is online, or isn't, may do the deed, of addresses that there are.

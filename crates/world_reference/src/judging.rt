@@ -1,7 +1,7 @@
 //! Whether the trace of a run is what its plan leads to, by plain deciders.
 
 use super::answers::{self, is_legal, never_falls};
-use super::deeds::{course_of, own_steps};
+use super::deeds::{own_steps, progress_of};
 use super::judge_error::accept;
 use super::memory::loads_are_stores;
 use super::moment::Moment;
@@ -167,10 +167,10 @@ fn judge_deeds(
     script: &[Deed],
 ) -> Result<Vec<answers::Seen>, JudgeError> {
     let items = items_of(run.schedule, Actor::Worker(worker));
-    let course = course_of(alloc, run.initial, &run.trace.steps, worker, script)?;
-    let is_led = course.made == items || course.due == Some(course.made);
-    accept(is_led && course.is_right(), JudgeError::Deeds(worker))?;
-    Ok(course.lookups)
+    let progress = progress_of(alloc, run.initial, &run.trace.steps, worker, script)?;
+    let is_led = progress.made == items || progress.due == Some(progress.made);
+    accept(is_led && progress.is_right(), JudgeError::Deeds(worker))?;
+    Ok(progress.lookups)
 }
 
 // The worker makes its deeds, and the run shows what its lookups found. Returns how many addresses it
