@@ -39,7 +39,7 @@ rests_answer w addr hop place k rest written of late =
     let steps : List WriterStep = steps_of w in
     let all : oldest place steps ≡ steps = oldest_all steps place late in
     let now = counts c steps written in
-    let last : k ≡ w.table.begun = omega (
+    let last : k ≡ w.table.updates_begun = omega (
       arith,
       of.done,
       of.begun,

@@ -29,7 +29,7 @@ initial_fib c = record { config = c; table = initial_by_counters c }
 
 -- a table that was just opened with these rules, as version n
 abbrev pub initial_fib_at : Config → RuleMap → ℕ → FibState
-initial_fib_at c R n = record { config = c; table = record (initial_by_counters c) { rules = R; begun = n } }
+initial_fib_at c R n = record { config = c; table = record (initial_by_counters c) { rules = R; updates_begun = n } }
 
 -- the same, as version 0
 abbrev pub initial_fib_with : Config → RuleMap → FibState
@@ -86,8 +86,8 @@ coded_state =
     code_by (RuleMap × (Registry × (List ℕ × ℕ)))
     (coded× (map.code coded_network coded_ℕ)
     (coded× coded_registry (coded× (coded_list coded_ℕ) coded_ℕ)))
-    (λ s. (s.rules, (s.readers, (s.limbo, s.begun))))
-    (λ p. record { rules = p.0; readers = p.1.0; limbo = p.1.1.0; begun = p.1.1.1 })
+    (λ s. (s.rules, (s.readers, (s.limbo, s.updates_begun))))
+    (λ p. record { rules = p.0; readers = p.1.0; limbo = p.1.1.0; updates_begun = p.1.1.1 })
     (λ _. refl)
 
 abbrev pub coded_fib_state : Coded FibState

@@ -30,7 +30,7 @@ pub record IsAsked (first second : ℕ) (c : Config) (z : State Registry) (addrs
     : Type 0 where
   pub hops : AreLongestHops (first + second) z.rules addrs r.hops.items
   pub rules : r.rules ≡ len z.rules
-  pub versions : r.versions ≡ z.begun
+  pub versions : r.versions ≡ z.updates_begun
   pub in_use : r.counts.in_use ≡ groups_in_use first second z.rules
   pub limbo : r.counts.limbo ≡ length z.limbo
   pub groups : r.counts.in_use + r.counts.limbo + r.counts.free ≡ c.groups

@@ -212,7 +212,7 @@ impl<const FIRST: u32, const SECOND: u32> Fib<FIRST, SECOND> {
 
     /// The number of changes that made a version of the rule list.
     pub fn versions(&self) -> u64
-        ensures { result ≡ self.now.table.begun }
+        ensures { result ≡ self.now.table.updates_begun }
     {
         self.control.versions
     }

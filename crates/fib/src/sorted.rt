@@ -139,7 +139,7 @@ fn parts_with<const FIRST: u32, const SECOND: u32>(
     ensures sound { IfOk result (λ t. IsSound FIRST SECOND t.0 t.1) }
     ensures config { IfOk result (λ t. t.0.config ≡ config) }
     ensures table { IfOk result (λ t. table_of t.0 t.1
-        ≡ record (initial_by_counters config) { rules = rules.entry.rules; begun = versions }) }
+        ≡ record (initial_by_counters config) { rules = rules.entry.rules; updates_begun = versions }) }
 {
     let Swept {
         first_words,
@@ -203,7 +203,7 @@ pub(crate) fn parts_at<const FIRST: u32, const SECOND: u32>(
     ensures sound { IfOk result (λ o. IfSome o (λ t. IsSound FIRST SECOND t.0 t.1)) }
     ensures config { IfOk result (λ o. IfSome o (λ t. t.0.config ≡ config)) }
     ensures table { IfOk result (λ o. IfSome o (λ t. table_of t.0 t.1
-        ≡ record (initial_by_counters config) { rules = rules.entry.rules; begun = versions })) }
+        ≡ record (initial_by_counters config) { rules = rules.entry.rules; updates_begun = versions })) }
     ensures rules_fit { IfOk result (λ o. IfSome o (λ _.
         map.len rules.entry.rules ≤ config.rules)) }
     ensures groups_fit { IfOk result (λ o. IfSome o (λ _.

@@ -37,7 +37,7 @@ AreNamed P ms ns = ⊥
 
 -- a state with the same rules and as many updates
 abbrev pub beside : {X Y : Type 0} → State X → Y → List ℕ → State Y
-beside s y limbo = record { rules = s.rules; readers = y; limbo = limbo; begun = s.begun }
+beside s y limbo = record { rules = s.rules; readers = y; limbo = limbo; updates_begun = s.updates_begun }
 
 -- some state beside z, related to it, is as D says
 abbrev pub Follows : {X Y : Type 0} → (X → Y → Type 0) → (X → Y → ℕ → ℕ → Type 0) → State X

@@ -34,8 +34,8 @@ not_both c s has (inl h) = let t = has.0 in absurd (omega (arith, t, h))
 not_both c s has (inr h) = let t = has.1 in absurd (omega (arith, t, h))
 
 -- states of the same parts
-state_is : {X : Type 0} (z z' : State X) → z.rules ≡ z'.rules → z.readers ≡ z'.readers → z.limbo ≡ z'.limbo → z.begun ≡ z'.begun → z ≡ z'
-state_is z z' a b d e = λ i. record { rules = a i; readers = b i; limbo = d i; begun = e i }
+state_is : {X : Type 0} (z z' : State X) → z.rules ≡ z'.rules → z.readers ≡ z'.readers → z.limbo ≡ z'.limbo → z.updates_begun ≡ z'.updates_begun → z ≡ z'
+state_is z z' a b d e = λ i. record { rules = a i; readers = b i; limbo = d i; updates_begun = e i }
 
 -- ---- adding: which check decides
 
@@ -58,17 +58,17 @@ stage_new : (o : Option ℕ) (h : ℕ) (x y : Bool) → o ≡ None → x ≡ fal
 stage_new o h x y none is = ap (λ o. stage o h x y) none ∙ ap (λ b. cond b 1 (cond y 4 3)) is
 
 abbrev is_exhausted : Config → Book → Bool
-is_exhausted c s = cond (nat_lt (2 ^ 62) ((textbook c).token s.readers + c.groups)) true (cond (nat_lt s.begun (2 ^ 61)) false true)
+is_exhausted c s = cond (nat_lt (2 ^ 62) ((textbook c).token s.readers + c.groups)) true (cond (nat_lt s.updates_begun (2 ^ 61)) false true)
 
 exhausted : (c : Config) (s : Book) → IsExhausted (textbook c) c s → is_exhausted c s ≡ true
-exhausted c s (inl h) = ap (λ b. cond b true (cond (nat_lt s.begun (2 ^ 61)) false true)) (lt-ltb _ _ h)
+exhausted c s (inl h) = ap (λ b. cond b true (cond (nat_lt s.updates_begun (2 ^ 61)) false true)) (lt-ltb _ _ h)
 exhausted c s (inr h) = elim (cases_lt (2 ^ 62) ((textbook c).token s.readers + c.groups)) [
-  | inl over ↦ ap (λ b. cond b true (cond (nat_lt s.begun (2 ^ 61)) false true)) (lt-ltb _ _ over)
-  | inr within ↦ ap (λ b. cond b true (cond (nat_lt s.begun (2 ^ 61)) false true)) (le-ltb _ _ within) ∙ ap (λ b. cond b false true) (le-ltb _ _ h)
+  | inl over ↦ ap (λ b. cond b true (cond (nat_lt s.updates_begun (2 ^ 61)) false true)) (lt-ltb _ _ over)
+  | inr within ↦ ap (λ b. cond b true (cond (nat_lt s.updates_begun (2 ^ 61)) false true)) (le-ltb _ _ within) ∙ ap (λ b. cond b false true) (le-ltb _ _ h)
 ]
 
 has_tokens : (c : Config) (s : Book) → HasTokens (textbook c) c s → is_exhausted c s ≡ false
-has_tokens c s has = ap (λ b. cond b true (cond (nat_lt s.begun (2 ^ 61)) false true)) (le-ltb _ _ has.0) ∙ ap (λ b. cond b false true) (lt-ltb _ _ has.1)
+has_tokens c s has = ap (λ b. cond b true (cond (nat_lt s.updates_begun (2 ^ 61)) false true)) (le-ltb _ _ has.0) ∙ ap (λ b. cond b false true) (lt-ltb _ _ has.1)
 
 abbrev stage_of : Config → Book → Network → ℕ → ℕ
 stage_of c s p h = stage (get s.rules p) h (is_exhausted c s) (nat_lt (len s.rules) c.rules)
@@ -76,7 +76,7 @@ stage_of c s p h = stage (get s.rules p) h (is_exhausted c s) (nat_lt (len s.rul
 -- a new rule, for which a group is taken where it lacks one
 abbrev IsIn : ℕ → ℕ → Config → Book → Network → ℕ → Result Put Refusal → Book → Type 0
 IsIn f g c s p h r z = (r ≡ Ok Added) × ((y : List Event) × TakesGroup (textbook c) f g c s p z.limbo y)
-    × (z ≡ record s { rules = insert s.rules p h; begun = s.begun + 1; limbo = z.limbo })
+    × (z ≡ record s { rules = insert s.rules p h; updates_begun = s.updates_begun + 1; limbo = z.limbo })
 
 -- the same, and none can be taken
 abbrev IsOut : ℕ → ℕ → Config → Book → Network → Result Put Refusal → Book → Type 0
@@ -85,7 +85,7 @@ IsOut f g c s p r z = (oldest : Option Busy) × (r ≡ Err (NoGroups oldest)) ×
 abbrev Answer : ℕ → ℕ → Config → Book → Network → ℕ → ℕ → Result Put Refusal → Book → Type 0
 Answer f g c s p h zero r z = (r ≡ Ok Unchanged) × (z ≡ s)
 Answer f g c s p h (suc zero) r z = (r ≡ Err Exhausted) × (z ≡ s)
-Answer f g c s p h (suc (suc zero)) r z = (r ≡ Ok Replaced) × (z ≡ record s { rules = insert s.rules p h; begun = s.begun + 1 })
+Answer f g c s p h (suc (suc zero)) r z = (r ≡ Ok Replaced) × (z ≡ record s { rules = insert s.rules p h; updates_begun = s.updates_begun + 1 })
 Answer f g c s p h (suc (suc (suc zero))) r z = (r ≡ Err TooManyRules) × (z ≡ s)
 Answer f g c s p h (suc (suc (suc (suc n)))) r z = (get s.rules p ≡ None) × (IsIn f g c s p h r z ⊎ IsOut f g c s p r z)
 
@@ -107,12 +107,12 @@ answer : (f g : ℕ) (c : Config) (s z : Book) (p : Network) (h : ℕ) (r : Resu
 answer f g c s z p h (Ok Unchanged) m d = subst (λ n. Answer f g c s p h n (Ok Unchanged) z) (sym (stage_same _ h _ _ d.0)) (refl, d.1)
 answer f g c s z p h (Ok Replaced) m d =
     subst (λ n. Answer f g c s p h n (Ok Replaced) z) (sym (stage_replaced _ h _ _ d.0 (has_tokens c s d.1)))
-    (refl, state_is z (record s { rules = insert s.rules p h; begun = s.begun + 1 }) d.3.0 (d.2.2 ∙ d.2.1) d.4 d.3.1)
+    (refl, state_is z (record s { rules = insert s.rules p h; updates_begun = s.updates_begun + 1 }) d.3.0 (d.2.2 ∙ d.2.1) d.4 d.3.1)
 answer f g c s z p h (Ok Added) m d =
     let group = d.1 in
     let readers = group.2.2 ∙ group.2.1 ∙ taken_readers f g c s p z.limbo group.0 d.0.0 group.1 in
     subst (λ n. Answer f g c s p h n (Ok Added) z) (sym (stage_room c s p h d.0))
-    (d.0.0, inl (refl, (group.0, group.1), state_is z (record s { rules = insert s.rules p h; begun = s.begun + 1; limbo = z.limbo }) d.2.0 readers refl d.2.1))
+    (d.0.0, inl (refl, (group.0, group.1), state_is z (record s { rules = insert s.rules p h; updates_begun = s.updates_begun + 1; limbo = z.limbo }) d.2.0 readers refl d.2.1))
 answer f g c s z p h (Err Exhausted) m d = subst (λ n. Answer f g c s p h n (Err Exhausted) z) (sym (stage_exhausted _ h _ _ d.0 (exhausted c s d.1))) (refl, d.2)
 answer f g c s z p h (Err TooManyRules) m d =
     subst (λ n. Answer f g c s p h n (Err TooManyRules) z) (sym (stage_new _ h _ _ d.0 (has_tokens c s d.1) ∙ ap (λ b. cond b 4 3) (le-ltb _ _ d.2))) (refl, d.3)
@@ -150,7 +150,7 @@ one_answer f g c s z z' p h (suc (suc (suc (suc n)))) r r' a b = elim a.1 [
   | inl i ↦ elim b.1 [
     | inl j ↦
         let same = one_left f g c s p z.limbo z'.limbo i.1.0 j.1.0 a.0 i.1.1 j.1.1 in
-        (i.0 ∙ sym j.0, i.2 ∙ ap (λ l. record s { rules = insert s.rules p h; begun = s.begun + 1; limbo = l }) same ∙ sym j.2)
+        (i.0 ∙ sym j.0, i.2 ∙ ap (λ l. record s { rules = insert s.rules p h; updates_begun = s.updates_begun + 1; limbo = l }) same ∙ sym j.2)
     | inr j ↦ absurd (not_in_and_out f g c s z z' p h r r' i j)
   ]
   | inr i ↦ elim b.1 [
@@ -205,7 +205,7 @@ one_reclaim : (c : Config) (s z z' : Book) (max : ℕ) (r r' : Reclaimed) → Fr
 one_reclaim c s z z' max r r' a b =
     let same = one_reclaims c s.readers z.readers z'.readers max s.limbo r.freed r'.freed r.stopped r'.stopped z.limbo z'.limbo a.0 b.0 in (
       λ i. record { freed = same.0 i; stopped = same.1 i },
-      state_is z z' (ap (λ x. x.rules) a.1 ∙ sym (ap (λ x. x.rules) b.1)) same.3 same.2 (ap (λ x. x.begun) a.1 ∙ sym (ap (λ x. x.begun) b.1)),
+      state_is z z' (ap (λ x. x.rules) a.1 ∙ sym (ap (λ x. x.rules) b.1)) same.3 same.2 (ap (λ x. x.updates_begun) a.1 ∙ sym (ap (λ x. x.updates_begun) b.1)),
     )
 
 -- ---- reports

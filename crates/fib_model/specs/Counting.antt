@@ -45,5 +45,5 @@ initial_by_counters c = record {
   rules = empty;
   readers = record { token = c.first_token; counters = replicate c.workers 0 };
   limbo = [];
-  begun = 0;
+  updates_begun = 0;
 }

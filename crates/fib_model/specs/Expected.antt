@@ -27,7 +27,7 @@ state_with rules begun w = record {
   rules = rules;
   readers = events_of w;
   limbo = w.limbo.items;
-  begun = begun;
+  updates_begun = begun;
 }
 
 abbrev pub state_of : {first second : ℕ} → Plain first second → State (List Event)
@@ -41,7 +41,7 @@ pub record IsAccount (first second : ℕ) (c : Config) (orders : List (Order fir
       (log_after [] orders a.outcomes.items) state
   pub each : length a.outcomes.items ≡ length orders
   pub rules : a.rules ≡ len state.rules
-  pub versions : a.versions ≡ state.begun
+  pub versions : a.versions ≡ state.updates_begun
   pub in_use : a.in_use ≡ groups_in_use first second state.rules
   pub limbo : a.limbo ≡ length state.limbo
   pub free : a.free ≡ c.groups - groups_in_use first second state.rules - length state.limbo

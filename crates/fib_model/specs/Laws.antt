@@ -48,13 +48,13 @@ history (done ∷ log) = versions_after (history log) done.0 done.1
 abbrev pub RulesAreLastVersion : Type 0
 RulesAreLastVersion = (first second : ℕ) (c : Config) (log : Log first second)
     (z : State (List Event)) → Runs (by_intervals c) first second c initial_by_events log z
-    → (z.rules ≡ last_of (history log)) × (z.begun ≡ length (history log))
+    → (z.rules ≡ last_of (history log)) × (z.updates_begun ≡ length (history log))
 
 -- the same of a run by counters
 abbrev pub RulesAreLastVersionByCounters : Type 0
 RulesAreLastVersionByCounters = (first second : ℕ) (c : Config) (log : Log first second)
     (z : State Registry) → Runs by_counters first second c (initial_by_counters c) log z
-    → (z.rules ≡ last_of (history log)) × (z.begun ≡ length (history log))
+    → (z.rules ≡ last_of (history log)) × (z.updates_begun ≡ length (history log))
 
 -- after a run a check of an unlinking passes exactly where no worker's running interval holds it
 -- (DPDK Programmer's Guide, "RCU Library": memory may be freed once no reader can hold a reference
@@ -80,7 +80,7 @@ OutcomesAreUnique = (first second : ℕ) (c : Config) (log log' : Log first seco
 -- token number, who is online, and, for each unlinking that waits, who holds it
 pub record Agrees (c : Config) (z : State Registry) (y : State (List Event)) : Type 0 where
   pub rules : y.rules ≡ z.rules
-  pub begun : y.begun ≡ z.begun
+  pub begun : y.updates_begun ≡ z.updates_begun
   pub token : (textbook c).token y.readers ≡ z.readers.token
   pub online : (w : ℕ) → w < c.workers
       → by_counters.is_online z.readers w ↔ (by_intervals c).is_online y.readers w

@@ -58,7 +58,7 @@ Updates {X} t x z = (y : X) × t.begins x y × t.ends y z
 
 -- one more update was begun, and R is the rule list that it made
 abbrev pub Makes : {X : Type 0} → State X → RuleMap → State X → Type 0
-Makes s R z = (z.rules ≡ R) × (z.begun ≡ s.begun + 1)
+Makes s R z = (z.rules ≡ R) × (z.updates_begun ≡ s.updates_begun + 1)
 
 -- adding rule p with next hop h
 abbrev pub Adds : {X : Type 0} → Transitions X → ℕ → ℕ → Config → State X → Network → ℕ

@@ -13,7 +13,7 @@ pub record State (X : Type 0) : Type 0 where
   pub rules : RuleMap
   pub readers : X
   pub limbo : List ℕ
-  pub begun : ℕ
+  pub updates_begun : ℕ
 
 -- a way to keep what a change depends on: each part of a change leads from what is kept to what is
 -- kept then
@@ -43,10 +43,10 @@ looks holds x u (Err busy) z = holds x u busy × (z ≡ x)
 
 -- the tokens or the versions would pass their bound (this project's: 2^62 tokens and 2^61 updates)
 abbrev pub IsExhausted : {X : Type 0} → Transitions X → Config → State X → Type 0
-IsExhausted t c s = (2 ^ 62 < t.token s.readers + c.groups) ⊎ (2 ^ 61 ≤ s.begun)
+IsExhausted t c s = (2 ^ 62 < t.token s.readers + c.groups) ⊎ (2 ^ 61 ≤ s.updates_begun)
 
 abbrev pub HasTokens : {X : Type 0} → Transitions X → Config → State X → Type 0
-HasTokens t c s = (t.token s.readers + c.groups ≤ 2 ^ 62) × (s.begun < 2 ^ 61)
+HasTokens t c s = (t.token s.readers + c.groups ≤ 2 ^ 62) × (s.updates_begun < 2 ^ 61)
 
 -- Limbo lists (Fraser, UCAM-CL-TR-579, 2004, epoch-based reclamation: what was given up waits in
 -- limbo until no reader can hold it; DPDK Programmer's Guide, "RCU Library", the defer queue: the

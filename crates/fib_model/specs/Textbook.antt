@@ -79,4 +79,4 @@ by_intervals c = record {
 
 -- nothing has happened
 abbrev pub initial_by_events : State (List Event)
-initial_by_events = record { rules = empty; readers = []; limbo = []; begun = 0 }
+initial_by_events = record { rules = empty; readers = []; limbo = []; updates_begun = 0 }

@@ -50,11 +50,11 @@ opens f s config workers as_many = record {
 }
 
 pub nothing_yet : (rules : RuleMap) (limbo : List ℕ) (begun : ℕ) → rules ≡ empty → limbo ≡ [] → begun ≡ 0
-    → (let k : StateBySteps = record { rules = rules; readers = []; limbo = limbo; begun = begun } in k) ≡ initial_state_by_steps
+    → (let k : StateBySteps = record { rules = rules; readers = []; limbo = limbo; updates_begun = begun } in k) ≡ initial_state_by_steps
 nothing_yet rules limbo begun r l b =
-    ap {B = StateBySteps} (λ x. record { rules = x; readers = []; limbo = limbo; begun = begun }) r
-    ∙ ap {B = StateBySteps} (λ x. record { rules = empty {R = network_cmp}; readers = []; limbo = x; begun = begun }) l
-    ∙ ap {B = StateBySteps} (λ x. record { rules = empty {R = network_cmp}; readers = []; limbo = []; begun = x }) b
+    ap {B = StateBySteps} (λ x. record { rules = x; readers = []; limbo = limbo; updates_begun = begun }) r
+    ∙ ap {B = StateBySteps} (λ x. record { rules = empty {R = network_cmp}; readers = []; limbo = x; updates_begun = begun }) l
+    ∙ ap {B = StateBySteps} (λ x. record { rules = empty {R = network_cmp}; readers = []; limbo = []; updates_begun = x }) b
 
 pub run_ends : (f s : ℕ) (config : Config) (script : List (Change f s)) (scripts : List (List Deed)) → length scripts ≡ config.workers → (schedule : List Actor)
     (steps : List WriterStep) (shown : Trace)

@@ -58,7 +58,7 @@ Waits c n x z = AreStopped c.workers n (BumpToken ∷ x) (next_token c x) z
 -- blocks of rules longer than f bits), these groups wait in limbo, and in no update was a word stored
 -- twice
 pub record AgreesWithSteps (f g : ℕ) (c : InitialState) (s : StateBySteps) : Type 0 where
-  pub begun : s.begun ≡ updates_done_in (state_after c s.readers)
+  pub begun : s.updates_begun ≡ updates_done_in (state_after c s.readers)
   pub rules : (state_after c s.readers).history (updates_done_in (state_after c s.readers)) ≡ s.rules
   pub represents : Represents f g s.rules (state_after c s.readers).words
   pub limbo : IsLimbo c (state_after c s.readers) s.limbo
@@ -134,7 +134,7 @@ pub record IsPerformed (c : InitialState) (f g : ℕ) (config : Config) (n : ℕ
 
 -- there are no rules, no steps were made, no group waits, and no update was begun
 abbrev pub initial_state_by_steps : StateBySteps
-initial_state_by_steps = record { rules = empty; readers = []; limbo = []; begun = 0 }
+initial_state_by_steps = record { rules = empty; readers = []; limbo = []; updates_begun = 0 }
 
 -- the steps, the newest first, of a writer that makes these changes one after another, and of workers that do
 -- the deeds of their scripts, on a table that was just opened. n items of a schedule are the writer's, and

@@ -141,7 +141,7 @@ new_group R p h long shallow = elim (grouped R p h) [
 -- ---- what accepted routes lead to
 
 abbrev made_of : State Registry → Made
-made_of s = (s.rules, s.begun)
+made_of s = (s.rules, s.updates_begun)
 
 -- routes lead from s to z, told without the tables between
 record Reaches (c : Config) (s : State Registry) (routes : List Route) (z : State Registry) : Type 0 where
@@ -149,7 +149,7 @@ record Reaches (c : Config) (s : State Registry) (routes : List Route) (z : Stat
   readers : z.readers ≡ s.readers
   limbo : z.limbo ≡ s.limbo
   fits : Fits c z.rules
-  tokens : s.begun < z.begun → (s.readers.token + c.groups ≤ 2 ^ 62) × (z.begun ≤ 2 ^ 61)
+  tokens : s.updates_begun < z.updates_begun → (s.readers.token + c.groups ≤ 2 ^ 62) × (z.updates_begun ≤ 2 ^ 61)
 
 -- the same hop changes nothing, another one does
 changed_same : (o : Option ℕ) (h : ℕ) → o ≡ Some h → changed o h ≡ 0
@@ -215,12 +215,12 @@ module _ (c : Config) where
 
   -- the table with this rule put in, as one more version
   abbrev changed_to : State Registry → Route → State Registry
-  changed_to s r = record s { rules = insert s.rules r.prefix r.hop; begun = s.begun + 1 }
+  changed_to s r = record s { rules = insert s.rules r.prefix r.hop; updates_begun = s.updates_begun + 1 }
 
   -- what the routes after a change reach
   reaches_rest : (s z : State Registry) (r : Route) (routes : List Route) → changed (get s.rules r.prefix) r.hop ≡ 1 → Reaches c s (r ∷ routes) z → Reaches c (changed_to s r) routes z
   reaches_rest s z r routes one whole =
-      let begun : s.begun + changed (get s.rules r.prefix) r.hop ≡ s.begun + 1 = omega (arith, one) in
+      let begun : s.updates_begun + changed (get s.rules r.prefix) r.hop ≡ s.updates_begun + 1 = omega (arith, one) in
       record {
         made = whole.made ∙ ap (λ (n : ℕ). made_by (insert s.rules r.prefix r.hop, n) routes) begun;
         readers = whole.readers;
@@ -284,14 +284,14 @@ module _ (c : Config) where
       let made = whole.made in
       let readers = whole.readers in
       let limbo = whole.limbo in
-      λ i. record { rules = (made i).0; readers = readers i; limbo = limbo i; begun = (made i).1 }
+      λ i. record { rules = (made i).0; readers = readers i; limbo = limbo i; updates_begun = (made i).1 }
 
   -- nor does a route that is there
   reaches_unchanged : (s z : State Registry) (r : Route) (routes : List Route) → get s.rules r.prefix ≡ Some r.hop → Reaches c s (r ∷ routes) z → Reaches c s routes z
   reaches_unchanged s z r routes same whole =
       let rules = insert_same s.rules r.prefix r.hop same in
       let zero_changes = changed_same (get s.rules r.prefix) r.hop same in
-      let begun : s.begun + changed (get s.rules r.prefix) r.hop ≡ s.begun = omega (arith, zero_changes) in
+      let begun : s.updates_begun + changed (get s.rules r.prefix) r.hop ≡ s.updates_begun = omega (arith, zero_changes) in
       record {
         made = whole.made ∙ (λ i. made_by (rules i, begun i) routes);
         readers = whole.readers;
@@ -370,7 +370,7 @@ has_rules (r ∷ routes) some =
 abbrev made_table : Config → List Route → State Registry
 made_table c routes =
     let m = made_by (empty, 0) routes in
-    record { rules = m.0; readers = (initial_by_counters c).readers; limbo = []; begun = m.1 }
+    record { rules = m.0; readers = (initial_by_counters c).readers; limbo = []; updates_begun = m.1 }
 
 -- routes whose rules fit, with tokens for them, make that table
 loaded_fitting : (c : Config) (routes : List Route) → length routes ≤ 2 ^ 61 → Fits c (rules_of_routes routes) → (0 < len (rules_of_routes routes) → c.first_token + c.groups ≤ 2 ^ 62) → IsLoaded c routes (made_table c routes)
@@ -392,7 +392,7 @@ loaded_fitting c routes few fits lasts =
     }
 
 -- by as many changes at most
-loads_fitting : (c : Config) (routes : List Route) → length routes ≤ 2 ^ 61 → Fits c (rules_of_routes routes) → (0 < len (rules_of_routes routes) → c.first_token + c.groups ≤ 2 ^ 62) → (t : State Registry) × IsLoaded c routes t × (t.begun ≤ length routes)
+loads_fitting : (c : Config) (routes : List Route) → length routes ≤ 2 ^ 61 → Fits c (rules_of_routes routes) → (0 < len (rules_of_routes routes) → c.first_token + c.groups ≤ 2 ^ 62) → (t : State Registry) × IsLoaded c routes t × (t.updates_begun ≤ length routes)
 loads_fitting c routes few fits lasts =
     let most : (made_by (empty, 0) routes).1 ≤ 0 + length routes = changes_at_most (empty, 0) routes in
     (made_table c routes, loaded_fitting c routes few fits lasts, omega (arith, most))
@@ -506,11 +506,11 @@ lasts_for (r ∷ routes) P lasts some = lasts (omega arith)
 
 -- the table of routes, by its rules and the number of changes
 pub loaded_as : (c : Config) (routes : List Route) (R : RuleMap) (n : ℕ) → length routes ≤ 2 ^ 61 → R ≡ rules_of_routes routes → n ≡ changes_of routes → Fits c R → (0 < length routes → c.first_token + c.groups ≤ 2 ^ 62)
-    → IsLoaded c routes (record (initial_by_counters c) { rules = R; begun = n })
+    → IsLoaded c routes (record (initial_by_counters c) { rules = R; updates_begun = n })
 loaded_as c routes R n few same count fits lasts =
     let loaded = loaded_fitting c routes few (subst (Fits c) same fits) (lasts_for routes (c.first_token + c.groups ≤ 2 ^ 62) lasts) in
-    subst (λ (Q : RuleMap). IsLoaded c routes (record (initial_by_counters c) { rules = Q; begun = n })) (made_rules (empty, 0) routes ∙ sym same)
-    (subst (λ k. IsLoaded c routes (record (initial_by_counters c) { rules = (made_by (empty, 0) routes).0; begun = k })) (sym count) loaded)
+    subst (λ (Q : RuleMap). IsLoaded c routes (record (initial_by_counters c) { rules = Q; updates_begun = n })) (made_rules (empty, 0) routes ∙ sym same)
+    (subst (λ k. IsLoaded c routes (record (initial_by_counters c) { rules = (made_by (empty, 0) routes).0; updates_begun = k })) (sym count) loaded)
 
 -- ---- routes behind those of which one is refused
 

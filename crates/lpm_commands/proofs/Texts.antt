@@ -206,23 +206,23 @@ is_plan list orders addrs plan rules changes same = record {
 -- ---- the table of the routes
 
 -- each route makes at most one version
-one_version : (c : Config) (s z : State Registry) (p : Network) (h : ℕ) (put : Put) → Adds counter_transitions 24 8 c s p h (Ok put) z → z.begun ≤ s.begun + 1
-one_version c s z p h Unchanged adds = let same = ap (λ (x : State Registry). x.begun) adds.1 in omega (arith, same)
+one_version : (c : Config) (s z : State Registry) (p : Network) (h : ℕ) (put : Put) → Adds counter_transitions 24 8 c s p h (Ok put) z → z.updates_begun ≤ s.updates_begun + 1
+one_version c s z p h Unchanged adds = let same = ap (λ (x : State Registry). x.updates_begun) adds.1 in omega (arith, same)
 one_version c s z p h Replaced adds = let more = adds.3.1 in omega (arith, more)
 one_version c s z p h Added adds = let more = adds.2.1 in omega (arith, more)
 
-few_versions : (c : Config) (s z : State Registry) (list : List Route) → Loads c s list z → z.begun ≤ s.begun + length list
-few_versions c s z [] same = let is = ap (λ (x : State Registry). x.begun) same in omega (arith, is)
+few_versions : (c : Config) (s z : State Registry) (list : List Route) → Loads c s list z → z.updates_begun ≤ s.updates_begun + length list
+few_versions c s z [] same = let is = ap (λ (x : State Registry). x.updates_begun) same in omega (arith, is)
 few_versions c s z (r ∷ list) loads =
     let one = one_version c s loads.1 r.prefix r.hop loads.0 loads.2 in
     let rest = few_versions c loads.1 z list loads.3 in
     omega (arith, one, rest)
 
-pub versions_within : (c : Config) (list : List Route) (table : State Registry) → IsLoaded c list table → table.begun ≤ length list
+pub versions_within : (c : Config) (list : List Route) (table : State Registry) → IsLoaded c list table → table.updates_begun ≤ length list
 versions_within c list table loaded = let few = few_versions c (initial_by_counters c) table list loaded.loads in omega (arith, few)
 
 -- the routes make a table of the limits of the plan, which has its rules
-pub are_loaded : (plan : Plan 24 8) (c : Config) (list : List Route) (n : ℕ) → c ≡ limits_of plan → rules_of plan.rules.now ≡ rules_of_routes list → (table : State Registry) → IsLoaded c list table → table.begun ≡ n → AreLoaded plan list n
+pub are_loaded : (plan : Plan 24 8) (c : Config) (list : List Route) (n : ℕ) → c ≡ limits_of plan → rules_of plan.rules.now ≡ rules_of_routes list → (table : State Registry) → IsLoaded c list table → table.updates_begun ≡ n → AreLoaded plan list n
 are_loaded plan c list n limits rules table loaded count = (table, subst (λ (k : Config). IsLoaded k list table) limits loaded, loaded.rules ∙ sym rules, count)
 
 -- the storm ends on the table of the routes, or for want of memory

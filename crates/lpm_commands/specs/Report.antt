@@ -27,7 +27,7 @@ use Rattle.lpm_commands.specs.Apply.{ComesOut, IsUpdated}
 -- the report has what the table counts
 pub record IsCountOf (fib : FibState) (r : TableCounts) : Type 0 where
   pub rules : r.rules ≡ len fib.table.rules
-  pub versions : r.versions ≡ fib.table.begun
+  pub versions : r.versions ≡ fib.table.updates_begun
   pub in_use : r.in_use ≡ groups_in_use 24 8 fib.table.rules
   pub limbo : r.limbo ≡ length fib.table.limbo
   pub groups : r.in_use + r.limbo + r.free ≡ fib.config.groups

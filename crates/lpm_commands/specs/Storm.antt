@@ -62,7 +62,7 @@ IsTextOf plan n text = (report : StormReport)
 -- how many of the routes made a version
 abbrev pub AreLoaded : Plan 24 8 → List Route → ℕ → Type 0
 AreLoaded plan list n = (table : State Registry) × IsLoaded (limits_of plan) list table
-    × (table.rules ≡ rules_of plan.rules.now) × (table.begun ≡ n)
+    × (table.rules ≡ rules_of plan.rules.now) × (table.updates_begun ≡ n)
 
 -- the text is the report of a storm of this plan, which can be run, on the table of these routes; the
 -- versions that these made are counted too

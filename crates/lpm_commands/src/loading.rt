@@ -171,7 +171,7 @@ pub fn open_for_changes<'a>(
     ensures workers { IfOk result (λ r. r.0.table.initial.workers ≡ config.workers) }
     ensures full { IfOk result (λ r. IsFullBench r.0.table r.0.bench) }
     ensures loaded { IfOk result (λ r. (table : State Registry)
-        × IsLoaded config routes.now table × (table.begun ≡ r.1)) }
+        × IsLoaded config routes.now table × (table.updates_begun ≡ r.1)) }
     ensures few { IfOk result (λ r. r.1 ≤ length routes.now) }
     ensures failure { IfErr result (EndsLoading config path.entry.now routes.now) }
 {

@@ -37,7 +37,7 @@ pub fn made_of<'a>(
     requires { IsConfig config }
     ensures max { IfOk result (λ m. m.rules.max ≡ config.rules) }
     ensures loaded { IfOk result (λ m. IsLoaded config routes.now
-        (record (initial_by_counters config) { rules = m.rules.rules; begun = m.versions })) }
+        (record (initial_by_counters config) { rules = m.rules.rules; updates_begun = m.versions })) }
     ensures fits { IfOk result (λ m. Fits config m.rules.rules) }
     ensures versions { IfOk result (λ m. m.versions ≤ length routes.now) }
     ensures failure { IfErr result (EndsLoading config path.entry.now routes.now) }
@@ -76,7 +76,7 @@ fn made_with_tokens<'a>(
     requires tokens { 0 < length routes.now → config.first_token + config.groups ≤ 2 ^ 62 }
     ensures max { IfOk result (λ m. m.rules.max ≡ config.rules) }
     ensures loaded { IfOk result (λ m. IsLoaded config routes.now
-        (record (initial_by_counters config) { rules = m.rules.rules; begun = m.versions })) }
+        (record (initial_by_counters config) { rules = m.rules.rules; updates_begun = m.versions })) }
     ensures fits { IfOk result (λ m. Fits config m.rules.rules) }
     ensures versions { IfOk result (λ m. m.versions ≤ length routes.now) }
     ensures failure { IfErr result (EndsLoading config path.entry.now routes.now) }

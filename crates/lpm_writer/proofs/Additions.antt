@@ -242,5 +242,5 @@ module _ (f s : ℕ) (c : InitialState) (steps : List WriterStep) (config : Conf
       (absent found.0, left, subst (λ m. len rules.rules < m) rest.max room),
       lacks found.0 found.1.0,
       found.1.1,
-      ap (λ q. record { rules = rules.rules; readers = z; limbo = tokens_of q.items; begun = begun }) same,
+      ap (λ q. record { rules = rules.rules; readers = z; limbo = tokens_of q.items; updates_begun = begun }) same,
     )

@@ -63,7 +63,7 @@ has_tokens t config S b off k = (
     | inl past ↦ absurd (truth b off (k.1 (inl past)))
     | inr within ↦ within
   ],
-  elim (cases_lt S.begun (2 ^ 61)) [
+  elim (cases_lt S.updates_begun (2 ^ 61)) [
     | inl within ↦ within
     | inr past ↦ absurd (truth b off (k.1 (inr past)))
   ],

@@ -286,7 +286,7 @@ module _ (M : Type 0) (does : M → WriterStep → M → Type 0) (c : InitialSta
       -- ---- whole changes
 
       abbrev pub state_alone : State (WithSteps M) → State (List WriterStep)
-      state_alone s = record { rules = s.rules; readers = s.readers.1; limbo = s.limbo; begun = s.begun }
+      state_alone s = record { rules = s.rules; readers = s.readers.1; limbo = s.limbo; updates_begun = s.updates_begun }
 
       told_alone : (z : State (WithSteps M)) (D : State (List WriterStep) → Type 0) → Follows IsOfSteps HasName z D → D (state_alone z) × (fixed z.readers.0 ≡ kind)
       told_alone z D h = (subst (λ l. D (beside z z.readers.1 l)) (named_is z.limbo h.1 h.4) (subst (λ w. D (beside z w h.1)) h.3.0 h.2), h.3.1)

@@ -59,7 +59,7 @@ blank_state first second config = record {
 -- what outcomes depend on, by what a writer keeps
 abbrev pub state_of : {X : Type 0} → RuleMap → X → GroupPool → ℕ → State X
 state_of R x pool begun =
-    record { rules = R; readers = x; limbo = tokens_of pool.queue.items; begun = begun }
+    record { rules = R; readers = x; limbo = tokens_of pool.queue.items; updates_begun = begun }
 
 -- no update runs; the words represent the rules, which are those of the last version; each group has
 -- one state, which the steps say; and all sizes are those of the limits

@@ -316,7 +316,7 @@ impl Owner {
 
     /// The number of changes that made a version of the rule list, since the table was opened.
     pub fn versions(&self) -> u64
-        ensures { result ≡ self.now.writer.table.begun }
+        ensures { result ≡ self.now.writer.table.updates_begun }
     {
         self.writer.versions()
     }

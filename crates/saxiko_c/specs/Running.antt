@@ -109,7 +109,7 @@ GetsFrom addr depth before after o status =
 -- rules, versions, token and groups are counted
 pub record IsCountedIn (w : WriterState) (c : SaxikoCounts) : Type 0 where
   pub rules : c.rules ≡ len w.table.rules
-  pub versions : c.versions ≡ w.table.begun
+  pub versions : c.versions ≡ w.table.updates_begun
   pub token : c.token ≡ token_of w
   pub in_use : c.groups_in_use ≡ groups_in_use 24 8 w.table.rules
   pub waiting : c.groups_waiting ≡ length w.table.limbo

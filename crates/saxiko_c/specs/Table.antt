@@ -101,7 +101,7 @@ FindsAll default addrs before after f status =
 -- rules, versions, token and groups are counted
 pub record IsCounted (f : FibState) (c : SaxikoCounts) : Type 0 where
   pub rules : c.rules ≡ len f.table.rules
-  pub versions : c.versions ≡ f.table.begun
+  pub versions : c.versions ≡ f.table.updates_begun
   pub token : c.token ≡ f.table.readers.token
   pub in_use : c.groups_in_use ≡ groups_in_use 24 8 f.table.rules
   pub waiting : c.groups_waiting ≡ length f.table.limbo

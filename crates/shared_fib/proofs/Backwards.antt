@@ -117,7 +117,7 @@ in_order c steps earlier later old new apart same =
 counted : (w : WriterState) (lo hi begins : ℕ) (p q : PassState) → IsAtRest w → IsHistory q → q.table ≡ w.identity
     → p.writer_steps ≡ steps_of w → q.writer_steps ≡ steps_of w → length p.writer_steps ≤ begins
     → lo ≡ updates_done (oldest begins q.writer_steps) → hi ≡ updates_begun q.writer_steps
-    → (lo ≡ w.table.begun) × (hi ≡ w.table.begun)
+    → (lo ≡ w.table.updates_begun) × (hi ≡ w.table.updates_begun)
 counted w lo hi begins p q rest history own before after late done_then begun_then =
     let all : oldest begins q.writer_steps ≡ steps_of w =
     oldest_all q.writer_steps begins (omega (arith, late, ap length before, ap length after)) ∙ after in

@@ -207,7 +207,7 @@ module _ (f s : ℕ) (key : InitialTable f s) (words : WordsAt) (seat : TableId)
           rules = z.rules.rules;
           readers = ap (λ (x : View). x.writer_steps) now_is i;
           limbo = ap tokens_of none i;
-          begun = new i;
+          updates_begun = new i;
         };
       }
 

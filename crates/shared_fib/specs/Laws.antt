@@ -81,4 +81,4 @@ abbrev pub LookupsCountVersions : Type 0
 LookupsCountVersions = (writer : WriterState) (lo hi : ℕ) (p q : PassState) → IsAtRest writer
     → IsLookedUp lo hi p q → IsHistory q → q.table ≡ writer.identity
     → p.writer_steps ≡ steps_of writer → q.writer_steps ≡ steps_of writer
-    → (lo ≡ writer.table.begun) × (hi ≡ writer.table.begun)
+    → (lo ≡ writer.table.updates_begun) × (hi ≡ writer.table.updates_begun)

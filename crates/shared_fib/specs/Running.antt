@@ -84,9 +84,9 @@ by_steps initial = by_steps_from initial.workers initial.token
 -- that wait are those that the steps retired; and in no update was a word stored twice
 pub record IsAtRest (w : WriterState) : Type 0 where
   pub written : IsWritten (initial_state w.identity) (steps_of w)
-  pub done : updates_done_in (state_of_writer w) ≡ w.table.begun
-  pub begun : updates_begun_in (state_of_writer w) ≡ w.table.begun
-  pub rules : (state_of_writer w).history w.table.begun ≡ w.table.rules
+  pub done : updates_done_in (state_of_writer w) ≡ w.table.updates_begun
+  pub begun : updates_begun_in (state_of_writer w) ≡ w.table.updates_begun
+  pub rules : (state_of_writer w).history w.table.updates_begun ≡ w.table.rules
   pub answers : (a : ℕ) → a < addresses (initial_state w.identity)
       → IsAnswer (initial_state w.identity) w.table.rules a
       (answer (initial_state w.identity) (state_of_writer w).words a)
@@ -98,7 +98,7 @@ abbrev pub initial_writer : Identity → Config → RuleMap → WriterState
 initial_writer id config rules = record {
   identity = id;
   config = config;
-  table = record { rules = rules; readers = []; limbo = []; begun = 0 };
+  table = record { rules = rules; readers = []; limbo = []; updates_begun = 0 };
 }
 
 -- the control state with the steps that the seat knows
@@ -141,7 +141,7 @@ coded_writer =
     code_by (Identity × (Config × (RuleMap × (List WriterStep × (List ℕ × ℕ)))))
     (coded× coded_identity (coded× coded_config (coded× (map.code coded_network coded_ℕ)
     (coded× (coded_list step_row.the_row.coded) (coded× (coded_list coded_ℕ) coded_ℕ)))))
-    (λ w. (w.identity, (w.config, (w.table.rules, (w.table.readers, (w.table.limbo, w.table.begun))))))
+    (λ w. (w.identity, (w.config, (w.table.rules, (w.table.readers, (w.table.limbo, w.table.updates_begun))))))
     (λ p. record {
       identity = p.0;
       config = p.1.0;
@@ -149,7 +149,7 @@ coded_writer =
         rules = p.1.1.0;
         readers = p.1.1.1.0;
         limbo = p.1.1.1.1.0;
-        begun = p.1.1.1.1.1;
+        updates_begun = p.1.1.1.1.1;
       };
     })
     (λ _. refl)

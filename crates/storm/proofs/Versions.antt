@@ -168,22 +168,22 @@ order_later k on f g c s z (order.Quiescent w) out mine d = absurd mine
 -- a command leaves the rules after its change, and begins an update where it made one
 record Comes {X : Type 0} {f g : ℕ} (s z : State X) (changes : List (Change f g)) : Type 0 where
   rules : z.rules ≡ rules_after s.rules changes
-  begun : z.begun ≡ s.begun + length changes
+  begun : z.updates_begun ≡ s.updates_begun + length changes
   few : length changes ≤ 1
 
 module _ {X : Type 0} {f g : ℕ} (s z : State X) where
   no_change : z ≡ s → Comes {X = X} {f = f} {g = g} s z []
   no_change same = record {
     rules = ap (λ (x : State X). x.rules) same;
-    begun = let e : z.begun ≡ s.begun = ap (λ (x : State X). x.begun) same in omega (arith, e);
+    begun = let e : z.updates_begun ≡ s.updates_begun = ap (λ (x : State X). x.updates_begun) same in omega (arith, e);
     few = omega arith;
   }
 
-  a_change : (change : Change f g) → z.rules ≡ rules_after s.rules (change ∷ []) → z.begun ≡ s.begun + 1
+  a_change : (change : Change f g) → z.rules ≡ rules_after s.rules (change ∷ []) → z.updates_begun ≡ s.updates_begun + 1
       → Comes s z (change ∷ [])
   a_change change rules count = record { rules = rules; begun = count; few = omega arith }
 
-  kept_rules : z.rules ≡ s.rules → z.begun ≡ s.begun → Comes {X = X} {f = f} {g = g} s z []
+  kept_rules : z.rules ≡ s.rules → z.updates_begun ≡ s.updates_begun → Comes {X = X} {f = f} {g = g} s z []
   kept_rules rules count = record { rules = rules; begun = omega (arith, count); few = omega arith }
 
 comes : {X : Type 0} (k : Keeping X) (f g : ℕ) (c : Config) (s z : State X) (order : Order f g) (out : Outcome)
@@ -194,7 +194,7 @@ comes k f g c s z (order.Add p h) (outcome.Put Unchanged) mine d = no_change s z
 comes k f g c s z (order.Add p h) (outcome.Refused TooManyRules) mine d = no_change s z d.3
 comes k f g c s z (order.Add p h) (outcome.Refused Exhausted) mine d = no_change s z d.2
 comes {X} k f g c s z (order.Add p h) (outcome.Refused (NoGroups oldest)) mine d =
-    kept_rules s z (ap (λ (x : State X). x.rules) d.3) (ap (λ (x : State X). x.begun) d.3)
+    kept_rules s z (ap (λ (x : State X). x.rules) d.3) (ap (λ (x : State X). x.updates_begun) d.3)
 comes k f g c s z (order.Add p h) (outcome.Refused Memory) mine d = no_change s z d.1
 comes k f g c s z (order.Add p h) (outcome.Refused other) mine d = absurd d
 comes k f g c s z (order.Add p h) other mine d = absurd d
@@ -210,16 +210,16 @@ comes k f g c s z order.Flush (outcome.Refused Exhausted) mine d = no_change s z
 comes k f g c s z order.Flush (outcome.Refused other) mine d = absurd d
 comes k f g c s z order.Flush other mine d = absurd d
 comes {X} k f g c s z (order.Reclaim max) (outcome.Reclaimed r) mine d =
-    kept_rules s z (ap (λ (x : State X). x.rules) d.1) (ap (λ (x : State X). x.begun) d.1)
+    kept_rules s z (ap (λ (x : State X). x.rules) d.1) (ap (λ (x : State X). x.updates_begun) d.1)
 comes k f g c s z (order.Reclaim max) other mine d = absurd d
 comes k f g c s z (order.Online w) out mine d = absurd mine
 comes k f g c s z (order.Offline w) out mine d = absurd mine
 comes k f g c s z (order.Quiescent w) out mine d = absurd mine
 
 -- settling makes no version
-pub settled_versions : (id : Identity) (last end : WriterState) → Settles id last end → end.table.begun ≡ last.table.begun
+pub settled_versions : (id : Identity) (last end : WriterState) → Settles id last end → end.table.updates_begun ≡ last.table.updates_begun
 settled_versions id last end settled =
-    ap (λ (x : State (List WriterStep)). x.begun) settled.frees.1 ∙ ap (λ (w : WriterState). w.table.begun) settled.same
+    ap (λ (x : State (List WriterStep)). x.updates_begun) settled.frees.1 ∙ ap (λ (w : WriterState). w.table.updates_begun) settled.same
 
 -- ---- the versions, command by command
 
@@ -240,8 +240,8 @@ module _ (f g : ℕ) where
   module _ (R : RuleMap) (id : Identity) (w z : WriterState) (before change : List (Change f g)) (has : HasVersions R w before)
       (own : w.identity ≡ id) (own' : z.identity ≡ id) (later : IsLater (steps_of w) (steps_of z)) (rests : IsAtRest z)
       (came : Comes w.table z.table change) where
-    count_now : z.table.begun ≡ length (before ++ change)
-    count_now = let e : z.table.begun ≡ w.table.begun + length change = came.begun in omega (arith, e, has.count, length-append before change)
+    count_now : z.table.updates_begun ≡ length (before ++ change)
+    count_now = let e : z.table.updates_begun ≡ w.table.updates_begun + length change = came.begun in omega (arith, e, has.count, length-append before change)
 
     rules_now : z.table.rules ≡ rules_after R (before ++ change)
     rules_now =
@@ -263,7 +263,7 @@ module _ (f g : ℕ) where
         ∙ (ap (λ (t : TableState). t.history k) (sym left_before)
         ∙ (has.each k low ∙ sym (ap (rules_after R) (take-append-le k before change low)))))
 
-    new_version : (k : ℕ) → k ≡ z.table.begun → (state_of_writer z).history k ≡ version_from R (before ++ change) k
+    new_version : (k : ℕ) → k ≡ z.table.updates_begun → (state_of_writer z).history k ≡ version_from R (before ++ change) k
     new_version k here =
         ap (λ (n : ℕ). (state_of_writer z).history n) here
         ∙ (rests.rules ∙ (rules_now ∙ sym (all_changes R (before ++ change) k (omega (arith, here, count_now)))))

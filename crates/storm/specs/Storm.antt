@@ -93,7 +93,7 @@ pub record Settles (id : Identity) (last end : WriterState) : Type 0 where
 -- the report has what the table counts
 pub record IsCountOf (first second : ℕ) (w : WriterState) (r : TableCounts) : Type 0 where
   pub rules : r.rules ≡ len w.table.rules
-  pub versions : r.versions ≡ w.table.begun
+  pub versions : r.versions ≡ w.table.updates_begun
   pub in_use : r.in_use ≡ groups_in_use first second w.table.rules
   pub limbo : r.limbo ≡ length w.table.limbo
   pub groups : r.in_use + r.limbo + r.free ≡ w.config.groups

@@ -62,7 +62,7 @@ changes_by (order ∷ orders) (outcome ∷ outcomes) =
 -- are those after all of them, and for each k the rules of version k are those after the first k
 pub record HasVersions {first second : ℕ} (R : RuleMap) (w : WriterState)
     (changes : List (Change first second)) : Type 0 where
-  pub count : w.table.begun ≡ length changes
+  pub count : w.table.updates_begun ≡ length changes
   pub begun : updates_begun_in (state_of_writer w) ≡ length changes
   pub rules : w.table.rules ≡ rules_after R changes
   pub each : (k : ℕ) → k ≤ length changes → (state_of_writer w).history k ≡ version_from R changes k
