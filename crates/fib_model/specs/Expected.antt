@@ -7,31 +7,31 @@ use Rattle.fib_model.specs.declared.orders.Order.{Order}
 use Rattle.fib_model.specs.declared.event.Event.{Event}
 use Rattle.fib_model.specs.declared.plain.Account.{Account}
 use Rattle.fib_model.specs.declared.plain.Plain.{Plain}
-use Rattle.fib_model.specs.declared.waiting.Waiting.{Waiting}
+use Rattle.fib_model.specs.declared.limbo.PlainLimbo.{PlainLimbo}
 use Rattle.qsbr.specs.Intervals.{IsTidy}
 use Rattle.fib_model.specs.Textbook.{by_reports, textbook, by_intervals, initial_by_events}
 use Rattle.fib_model.specs.State.{State}
 use Rattle.fib_model.specs.Outcomes.{Runs, log_after, groups_in_use}
 
 -- the events, the newest first
-abbrev pub events_of : Waiting → List Event
+abbrev pub events_of : PlainLimbo → List Event
 events_of w = reverse w.events.items
 
 -- workers that take turns made these reports
-abbrev pub IsSound : Config → Waiting → Type 0
+abbrev pub IsSound : Config → PlainLimbo → Type 0
 IsSound c w = IsTidy by_reports c.workers (events_of w)
 
 -- the state with these rules, after so many updates
-abbrev pub state_with : RuleMap → ℕ → Waiting → State (List Event)
+abbrev pub state_with : RuleMap → ℕ → PlainLimbo → State (List Event)
 state_with rules begun w = record {
   rules = rules;
   readers = events_of w;
-  limbo = w.limbo.items;
+  limbo = w.places.items;
   updates_begun = begun;
 }
 
 abbrev pub state_of : {first second : ℕ} → Plain first second → State (List Event)
-state_of p = state_with p.rules.rules p.begun p.waiting
+state_of p = state_with p.rules.rules p.begun p.limbo
 
 -- what a run of these commands has come to: the outcome of each, and the counts at its end
 pub record IsAccount (first second : ℕ) (c : Config) (orders : List (Order first second))

@@ -10,10 +10,10 @@
 mod event;
 mod intervals;
 pub mod laws;
+mod limbo;
 mod orders;
 mod outcomes;
 mod plain;
-mod waiting;
 
 pub use event::Event;
 pub use orders::{Order, Outcome, ReaderReport};

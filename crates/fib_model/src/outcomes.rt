@@ -33,8 +33,8 @@ pub fn expected<const FIRST: u32, const SECOND: u32>(
         rules: plain.rules.len(),
         versions: plain.begun,
         in_use: plain.rules.deep_blocks(),
-        limbo: plain.waiting.limbo.len(),
+        limbo: plain.limbo.places.len(),
         free: plain.free(config),
-        token: plain.waiting.token(config),
+        token: plain.limbo.token(config),
     })
 }

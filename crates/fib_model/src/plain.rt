@@ -5,7 +5,7 @@ ghost use Rattle.std.specs.FinMap as map;
 ghost use Rattle.lpm_bits.specs.Widths.{IsShape};
 ghost use Rattle.lpm_limits.specs.Limits.{IsConfig};
 
-use crate::waiting::Waiting;
+use crate::limbo::PlainLimbo;
 use crate::{Order, Outcome, ReaderReport};
 use lpm_bits::{Hop, Prefix, Shape};
 use lpm_limits::{Config, Refusal};
@@ -31,11 +31,11 @@ pub struct Account {
     pub token: u64,
 }
 
-/// The rules, what waits, and how many updates were begun.
+/// The rules, the limbo list, and how many updates were begun.
 #[derive(Drop)]
 pub(crate) struct Plain<const FIRST: u32, const SECOND: u32> {
     pub(crate) rules: Rules<FIRST, SECOND>,
-    pub(crate) waiting: Waiting,
+    pub(crate) limbo: PlainLimbo,
     pub(crate) begun: u64,
 }
 
@@ -50,11 +50,11 @@ impl<const FIRST: u32, const SECOND: u32> Plain<FIRST, SECOND> {
     pub(crate) fn open(alloc: Global, config: &Config) -> Self
         requires { IsShape FIRST SECOND }
         ensures state { state_of result ≡ initial_by_events }
-        ensures sound { IsSound config.now result.waiting }
+        ensures sound { IsSound config.now result.limbo }
     {
         Plain {
             rules: Rules::new(alloc, config.rules),
-            waiting: Waiting::new(alloc),
+            limbo: PlainLimbo::new(alloc),
             begun: 0,
         }
     }
@@ -62,12 +62,12 @@ impl<const FIRST: u32, const SECOND: u32> Plain<FIRST, SECOND> {
     /// How many groups are neither in use nor waiting.
     pub(crate) fn free(&self, config: &Config) -> usize
         ensures { result ≡ config.now.groups - groups_in_use FIRST SECOND self.now.rules.rules
-            - length self.now.waiting.limbo.items }
+            - length self.now.limbo.places.items }
     {
         config
             .groups
             .saturating_sub(self.rules.deep_blocks())
-            .saturating_sub(self.waiting.limbo.len())
+            .saturating_sub(self.limbo.places.len())
     }
 
     /// Whether the tokens or the versions would pass their bound.
@@ -78,7 +78,7 @@ impl<const FIRST: u32, const SECOND: u32> Plain<FIRST, SECOND> {
         ensures no { IsFalse result
             → HasTokens (textbook config.now) config.now (state_of self.now) }
     {
-        let last = self.waiting.token(config) + config.groups as u64;
+        let last = self.limbo.token(config) + config.groups as u64;
         last > 1 << 62 || self.begun >= 1 << 61
     }
 
@@ -104,7 +104,7 @@ impl<const FIRST: u32, const SECOND: u32> Plain<FIRST, SECOND> {
         ensures rules { OnOk result
             (self.new.rules.rules ≡ map.insert self.old.rules.rules prefix.now hop) }
         ensures begun { OnOk result (self.new.begun ≡ self.old.begun + 1) }
-        ensures waiting { self.new.waiting ≡ self.old.waiting }
+        ensures limbo { self.new.limbo ≡ self.old.limbo }
     {
         match self.rules.put(prefix, hop) {
             Ok(_) => {
@@ -123,14 +123,14 @@ impl<const FIRST: u32, const SECOND: u32> Plain<FIRST, SECOND> {
         hop: Hop,
     ) -> Result<Result<Put, Refusal>, AllocError>
         requires config { IsConfig config.now }
-        requires sound { IsSound config.now self.old.waiting }
+        requires sound { IsSound config.now self.old.limbo }
         requires new { IsNew (textbook config.now) config.now (state_of self.old) prefix.now }
         ensures adds { IfOk result (λ r. Adds (textbook config.now) FIRST SECOND config.now
             (state_of self.old) prefix.now hop r (state_of self.new)) }
-        ensures events { self.new.waiting.events ≡ self.old.waiting.events }
+        ensures events { self.new.limbo.events ≡ self.old.limbo.events }
     {
         if self.lacks_group(config, prefix) {
-            if let Err(oldest) = self.waiting.take_front(config) {
+            if let Err(oldest) = self.limbo.take_front(config) {
                 return Ok(Err(Refusal::NoGroups { oldest }));
             }
         }
@@ -146,10 +146,10 @@ impl<const FIRST: u32, const SECOND: u32> Plain<FIRST, SECOND> {
         hop: Hop,
     ) -> Result<Result<Put, Refusal>, AllocError>
         requires config { IsConfig config.now }
-        requires sound { IsSound config.now self.old.waiting }
+        requires sound { IsSound config.now self.old.limbo }
         ensures adds { IfOk result (λ r. Adds (textbook config.now) FIRST SECOND config.now
             (state_of self.old) prefix.now hop r (state_of self.new)) }
-        ensures events { self.new.waiting.events ≡ self.old.waiting.events }
+        ensures events { self.new.limbo.events ≡ self.old.limbo.events }
     {
         let old = self.rules.get(prefix);
         if old == Some(hop) {
@@ -172,18 +172,18 @@ impl<const FIRST: u32, const SECOND: u32> Plain<FIRST, SECOND> {
     fn shrink(&mut self, config: &Config, before: usize) -> Result<(), AllocError>
         requires config { IsConfig config.now }
         requires begun { self.old.begun < 2 ^ 61 }
-        requires sound { IsSound config.now self.old.waiting }
+        requires sound { IsSound config.now self.old.limbo }
         ensures unlinked { OnOk result (Unlinks (textbook config.now) config.now
             (before - groups_in_use FIRST SECOND self.old.rules.rules)
-            (events_of self.old.waiting) self.old.waiting.limbo.items
-            (events_of self.new.waiting) self.new.waiting.limbo.items) }
-        ensures sound { OnOk result (IsSound config.now self.new.waiting) }
+            (events_of self.old.limbo) self.old.limbo.places.items
+            (events_of self.new.limbo) self.new.limbo.places.items) }
+        ensures sound { OnOk result (IsSound config.now self.new.limbo) }
         ensures begun { self.new.begun ≡ self.old.begun + 1 }
         ensures rules { self.new.rules ≡ self.old.rules }
     {
         let lost = before.saturating_sub(self.rules.deep_blocks());
         self.begun += 1;
-        self.waiting.unlink_all(config, lost)
+        self.limbo.unlink_all(config, lost)
     }
 
     /// Takes out a rule.
@@ -193,10 +193,10 @@ impl<const FIRST: u32, const SECOND: u32> Plain<FIRST, SECOND> {
         prefix: &Prefix<FIRST, SECOND>,
     ) -> Result<Result<Hop, Refusal>, AllocError>
         requires config { IsConfig config.now }
-        requires sound { IsSound config.now self.old.waiting }
+        requires sound { IsSound config.now self.old.limbo }
         ensures deletes { IfOk result (λ r. Deletes (textbook config.now) FIRST SECOND config.now
             (state_of self.old) prefix.now r (state_of self.new)) }
-        ensures sound { OnOk result (IsSound config.now self.new.waiting) }
+        ensures sound { OnOk result (IsSound config.now self.new.limbo) }
     {
         let Some(hop) = self.rules.get(prefix) else {
             return Ok(Err(Refusal::NoSuchRule));
@@ -213,10 +213,10 @@ impl<const FIRST: u32, const SECOND: u32> Plain<FIRST, SECOND> {
     /// Takes out all rules.
     fn flush(&mut self, config: &Config) -> Result<Result<usize, Refusal>, AllocError>
         requires config { IsConfig config.now }
-        requires sound { IsSound config.now self.old.waiting }
+        requires sound { IsSound config.now self.old.limbo }
         ensures flushes { IfOk result (λ r. Flushes (textbook config.now) FIRST SECOND config.now
             (state_of self.old) r (state_of self.new)) }
-        ensures sound { OnOk result (IsSound config.now self.new.waiting) }
+        ensures sound { OnOk result (IsSound config.now self.new.limbo) }
     {
         if self.rules.is_empty() {
             return Ok(Ok(0));
@@ -237,10 +237,10 @@ impl<const FIRST: u32, const SECOND: u32> Plain<FIRST, SECOND> {
         order: &Order<FIRST, SECOND>,
     ) -> Result<Outcome, AllocError>
         requires config { IsConfig config.now }
-        requires sound { IsSound config.now self.old.waiting }
+        requires sound { IsSound config.now self.old.limbo }
         ensures does { IfOk result (λ outcome. Does (by_intervals config.now) FIRST SECOND
             config.now (state_of self.old) order.now outcome (state_of self.new)) }
-        ensures sound { OnOk result (IsSound config.now self.new.waiting) }
+        ensures sound { OnOk result (IsSound config.now self.new.limbo) }
     {
         match order {
             Order::Add(prefix, hop) => match self.add(config, prefix, *hop)? {
@@ -255,12 +255,10 @@ impl<const FIRST: u32, const SECOND: u32> Plain<FIRST, SECOND> {
                 Ok(count) => Ok(Outcome::Flushed(count)),
                 Err(refusal) => Ok(Outcome::Refused(refusal)),
             },
-            Order::Reclaim(max) => Ok(Outcome::Reclaimed(self.waiting.reclaim(config, *max))),
-            Order::Online(worker) => self.waiting.report(config, ReaderReport::Online, *worker),
-            Order::Offline(worker) => self.waiting.report(config, ReaderReport::Offline, *worker),
-            Order::Quiescent(worker) => self
-                .waiting
-                .report(config, ReaderReport::Quiescent, *worker),
+            Order::Reclaim(max) => Ok(Outcome::Reclaimed(self.limbo.reclaim(config, *max))),
+            Order::Online(worker) => self.limbo.report(config, ReaderReport::Online, *worker),
+            Order::Offline(worker) => self.limbo.report(config, ReaderReport::Offline, *worker),
+            Order::Quiescent(worker) => self.limbo.report(config, ReaderReport::Quiescent, *worker),
         }
     }
 }

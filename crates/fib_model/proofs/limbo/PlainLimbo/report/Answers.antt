@@ -2,7 +2,7 @@ use Rattle.std.proofs.Common.{arith, rules, ap, ◌∙◌, ◌≡◌, [], ◌∷
 use Rattle.std.specs.FinMap.{empty}
 use Rattle.fib_model.specs.Expected.{events_of, state_with}
 use Rattle.fib_model.proofs.Runs.{fresh, tidy_told, tidy_pushed}
-use Rattle.fib_model.proofs.waiting.Waiting.report.Goals as goal
+use Rattle.fib_model.proofs.limbo.PlainLimbo.report.Goals as goal
 
 pub returns-clause-sound : goal.returns-clause-sound
 returns-clause-sound c =

@@ -3,7 +3,7 @@ use Rattle.fib_model.specs.Expected.{events_of}
 use Rattle.qsbr.specs.Intervals.{IsTidy}
 use Rattle.fib_model.specs.Textbook.{by_reports}
 use Rattle.fib_model.proofs.Runs.{tidy_unlinked, tidy_pushed}
-use Rattle.fib_model.proofs.waiting.Waiting.unlink.Goals as goal
+use Rattle.fib_model.proofs.limbo.PlainLimbo.unlink.Goals as goal
 
 pub make_room-requires-clause-sound : goal.make_room-requires-clause-sound
 make_room-requires-clause-sound c =

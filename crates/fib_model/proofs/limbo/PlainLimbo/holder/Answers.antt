@@ -1,7 +1,7 @@
 use Rattle.std.proofs.Common.{arith, below_more, refl}
 use Rattle.fib_model.specs.Expected.{events_of}
 use Rattle.fib_model.proofs.Unheld.{first_holder, none_hold}
-use Rattle.fib_model.proofs.waiting.Waiting.holder.Goals as goal
+use Rattle.fib_model.proofs.limbo.PlainLimbo.holder.Goals as goal
 
 pub returns-in-Some : goal.returns-in-Some
 returns-in-Some c =

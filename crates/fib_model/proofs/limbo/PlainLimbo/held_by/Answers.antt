@@ -3,7 +3,7 @@ use Rattle.qsbr.specs.Intervals.{IsRunningSince}
 use Rattle.fib_model.specs.Textbook.{by_reports}
 use Rattle.qsbr.proofs.Running.{held_start}
 use Rattle.fib_model.specs.Expected.{events_of}
-use Rattle.fib_model.proofs.waiting.Waiting.held_by.Goals as goal
+use Rattle.fib_model.proofs.limbo.PlainLimbo.held_by.Goals as goal
 
 pub returns-then-start-place : goal.returns-then-start-place
 returns-then-start-place c = λ h.

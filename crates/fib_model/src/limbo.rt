@@ -13,12 +13,12 @@ use std::alloc::{AllocError, Global};
 
 /// The events, the oldest first, and the places of the unlinkings that wait.
 #[derive(Drop)]
-pub(crate) struct Waiting {
+pub(crate) struct PlainLimbo {
     pub(crate) events: Vec<Event>,
-    pub(crate) limbo: Vec<usize>,
+    pub(crate) places: Vec<usize>,
 }
 
-impl Waiting {
+impl PlainLimbo {
     ghost use Rattle.qsbr.specs.Intervals.{IsRunningSince, IsHeldByWorker, IsTidy};
     ghost use Rattle.fib_model.specs.Textbook.{by_reports, unlinkings_before, unlinkings, textbook, by_intervals};
     ghost use Rattle.fib_model.specs.State.{MakesRoom, Reclaims, UnlinksOne, Unlinks};
@@ -29,11 +29,11 @@ impl Waiting {
     /// Nothing has happened.
     pub(crate) fn new(alloc: Global) -> Self
         ensures events { events_of result ≡ [] }
-        ensures limbo { result.limbo.items ≡ [] }
+        ensures limbo { result.places.items ≡ [] }
     {
-        Waiting {
+        PlainLimbo {
             events: Vec::new(alloc),
-            limbo: Vec::new(alloc),
+            places: Vec::new(alloc),
         }
     }
 
@@ -89,13 +89,13 @@ impl Waiting {
     fn front(&self, config: &Config, max: usize) -> Reclaimed
         requires config { IsConfig config.now }
         requires sound { IsSound config.now self.now }
-        ensures { Reclaims (textbook config.now) (events_of self.now) max self.now.limbo.items
-            result.freed result.stopped (drop result.freed self.now.limbo.items)
+        ensures { Reclaims (textbook config.now) (events_of self.now) max self.now.places.items
+            result.freed result.stopped (drop result.freed self.now.places.items)
             (events_of self.now) }
     {
-        let most = max.min(self.limbo.len());
+        let most = max.min(self.places.len());
         for freed in 0..most {
-            if let Some(busy) = self.holder(config, self.limbo[freed]) {
+            if let Some(busy) = self.holder(config, self.places[freed]) {
                 return Reclaimed {
                     freed,
                     stopped: Some(busy),
@@ -110,12 +110,12 @@ impl Waiting {
 
     /// Takes so many unlinkings from the front of those that wait.
     fn drop_front(&mut self, count: usize)
-        requires { count ≤ length self.old.limbo.items }
-        ensures limbo { self.new.limbo.items ≡ drop count self.old.limbo.items }
+        requires { count ≤ length self.old.places.items }
+        ensures limbo { self.new.places.items ≡ drop count self.old.places.items }
         ensures events { self.new.events ≡ self.old.events }
     {
         for _taken in 0..count {
-            self.limbo.remove(0);
+            self.places.remove(0);
         }
     }
 
@@ -124,7 +124,7 @@ impl Waiting {
         requires config { IsConfig config.now }
         requires sound { IsSound config.now self.old }
         ensures limbo { Reclaims (textbook config.now) (events_of self.old) max
-            self.old.limbo.items result.freed result.stopped self.new.limbo.items
+            self.old.places.items result.freed result.stopped self.new.places.items
             (events_of self.new) }
         ensures events { self.new.events ≡ self.old.events }
     {
@@ -137,22 +137,22 @@ impl Waiting {
     pub(crate) fn take_front(&mut self, config: &Config) -> Result<(), Option<Busy>>
         requires config { IsConfig config.now }
         requires sound { IsSound config.now self.old }
-        ensures taken { OnOk result ((u : ℕ) × (self.old.limbo.items ≡ u ∷ self.new.limbo.items)
+        ensures taken { OnOk result ((u : ℕ) × (self.old.places.items ≡ u ∷ self.new.places.items)
             × (textbook config.now).checks (events_of self.old) u (Ok tt) (events_of self.new)) }
-        ensures held { IfErr result (λ oldest. MatchOption oldest (self.old.limbo.items ≡ [])
-            (λ busy. (u : ℕ) × (slice_get self.old.limbo.items 0 ≡ Some u)
+        ensures held { IfErr result (λ oldest. MatchOption oldest (self.old.places.items ≡ [])
+            (λ busy. (u : ℕ) × (slice_get self.old.places.items 0 ≡ Some u)
             × (textbook config.now).checks (events_of self.old) u (Err busy)
             (events_of self.new))) }
-        ensures limbo { OnErr result (self.new.limbo ≡ self.old.limbo) }
+        ensures limbo { OnErr result (self.new.places ≡ self.old.places) }
         ensures events { self.new.events ≡ self.old.events }
     {
-        if self.limbo.is_empty() {
+        if self.places.is_empty() {
             return Err(None);
         }
-        if let Some(busy) = self.holder(config, self.limbo[0]) {
+        if let Some(busy) = self.holder(config, self.places[0]) {
             return Err(Some(busy));
         }
-        self.limbo.remove(0);
+        self.places.remove(0);
         Ok(())
     }
 
@@ -161,10 +161,10 @@ impl Waiting {
         requires config { IsConfig config.now }
         requires sound { IsSound config.now self.old }
         ensures room { MakesRoom (textbook config.now) config.now (events_of self.old)
-            self.old.limbo.items self.new.limbo.items (events_of self.new) }
+            self.old.places.items self.new.places.items (events_of self.new) }
         ensures events { self.new.events ≡ self.old.events }
     {
-        if self.limbo.len() > config.threshold {
+        if self.places.len() > config.threshold {
             self.reclaim(config, config.reclaim_max);
         }
     }
@@ -174,13 +174,13 @@ impl Waiting {
         requires config { IsConfig config.now }
         requires sound { IsSound config.now self.old }
         ensures unlinked { OnOk result (UnlinksOne (textbook config.now) config.now
-            (events_of self.old) self.old.limbo.items (events_of self.new) self.new.limbo.items) }
+            (events_of self.old) self.old.places.items (events_of self.new) self.new.places.items) }
         ensures sound { OnOk result (IsSound config.now self.new) }
     {
         let place = self.events.len();
         self.events.push(Event::Unlinking)?;
         self.make_room(config);
-        self.limbo.push(place)?;
+        self.places.push(place)?;
         Ok(())
     }
 
@@ -189,7 +189,7 @@ impl Waiting {
         requires config { IsConfig config.now }
         requires sound { IsSound config.now self.old }
         ensures unlinked { OnOk result (Unlinks (textbook config.now) config.now count
-            (events_of self.old) self.old.limbo.items (events_of self.new) self.new.limbo.items) }
+            (events_of self.old) self.old.places.items (events_of self.new) self.new.places.items) }
         ensures sound { OnOk result (IsSound config.now self.new) }
     {
         for _unlinked in 0..count {
