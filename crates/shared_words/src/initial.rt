@@ -5,11 +5,11 @@ ghost use Rattle.shared_words.specs.Layout.{InitialData};
 use std::marker::Model;
 
 /// What a table was opened with, as the view of a seat has it. No value of it is made.
-pub struct Initial {
+pub struct InitialData {
     marker: (),
 }
 
-impl Model for Initial {
+impl Model for InitialData {
     ghost use Rattle.shared_words.specs.Layout.{InitialData, coded_initial_data, no_initial_data};
 
     ghost Value = { InitialData };

@@ -23,7 +23,7 @@ mod writer;
 
 pub use address::lookup_address;
 pub use four_addresses::{FourAnswers, lookup_four_addresses};
-pub use initial::{Initial, InitialContent};
+pub use initial::{InitialContent, InitialData};
 pub use layout::{Layout, pairs};
 pub use reports::{report_offline, report_online, report_quiescent};
 pub use view::{Role, View};

@@ -1,6 +1,6 @@
 //! What a seat of the table knows. No value of these types is made: a view is what a contract speaks of.
 
-use crate::initial::Initial;
+use crate::initial::InitialData;
 use lpm_trace::{WorkerStep, WriterStep};
 use std::collections::LinkedList;
 
@@ -17,7 +17,7 @@ pub enum Role {
 /// What a seat knows. Lists have the newest step first.
 pub struct View {
     /// What the table was opened with.
-    pub initial: Initial,
+    pub initial: InitialData,
     /// Whose seat it is.
     pub role: Role,
     /// How many workers' seats were made, for the writer.
