@@ -59,90 +59,90 @@ writer_goes_on c steps s trace may finds = (
   trace,
 )
 
-asked_still : (c : InitialState) (s : WriterStep) (ws : List WriterStep) (token k : ℕ) → HasLetPass c.token ws token k → HasLetPass c.token (s ∷ ws) token k
-asked_still c s ws token k asked = record {
-  newer = s ∷ asked.newer;
-  older = asked.older;
-  counter = asked.counter;
-  split = ap (λ l. s ∷ l) asked.split;
-  started = asked.started;
-  passes = asked.passes;
+let_pass_still : (c : InitialState) (s : WriterStep) (ws : List WriterStep) (token k : ℕ) → HasLetPass c.token ws token k → HasLetPass c.token (s ∷ ws) token k
+let_pass_still c s ws token k was = record {
+  newer = s ∷ was.newer;
+  older = was.older;
+  counter = was.counter;
+  split = ap (λ l. s ∷ l) was.split;
+  started = was.started;
+  passes = was.passes;
 }
 
-asked_now : (c : InitialState) (ws : List WriterStep) (token k counter : ℕ) → token ≤ (state_after c ws).token → lets_pass token counter ≡ true → HasLetPass c.token (LoadCounter token k counter ∷ ws) token k
-asked_now c ws token k counter le passes = record { newer = []; older = ws; counter = counter; split = refl; started = omega (arith, le, token_is c ws); passes = passes }
+let_pass_by_load : (c : InitialState) (ws : List WriterStep) (token k counter : ℕ) → token ≤ (state_after c ws).token → lets_pass token counter ≡ true → HasLetPass c.token (LoadCounter token k counter ∷ ws) token k
+let_pass_by_load c ws token k counter le passes = record { newer = []; older = ws; counter = counter; split = refl; started = omega (arith, le, token_is c ws); passes = passes }
 
--- the workers below the next one were asked in the check that runs, and the greatest token that has
+-- the workers below the next one let the token of the running check pass, and the greatest token that has
 -- passed was checked
-record Asked (c : InitialState) (ws : List WriterStep) : Type 0 where
+record ScanIsSound (c : InitialState) (ws : List WriterStep) : Type 0 where
   pub scanned : (k : ℕ) → k < (state_after c ws).scan.next → HasLetPass c.token ws (state_after c ws).scan.token k
   pub passed : ((state_after c ws).passed ≡ 0) ⊎ IsChecked c.workers c.token ws (state_after c ws).passed
 
 checked_still : (c : InitialState) (s : WriterStep) (ws : List WriterStep) (token : ℕ) → IsChecked c.workers c.token ws token → IsChecked c.workers c.token (s ∷ ws) token
-checked_still c s ws token h = record { checked = h.checked; later = h.later; each = λ k lt. asked_still c s ws h.checked k (h.each k lt) }
+checked_still c s ws token h = record { checked = h.checked; later = h.later; each = λ k lt. let_pass_still c s ws h.checked k (h.each k lt) }
 
 passed_still : (c : InitialState) (s : WriterStep) (ws : List WriterStep) (passed : ℕ) → (passed ≡ 0) ⊎ IsChecked c.workers c.token ws passed → (passed ≡ 0) ⊎ IsChecked c.workers c.token (s ∷ ws) passed
 passed_still c s ws passed (inl none) = inl none
 passed_still c s ws passed (inr h) = inr (checked_still c s ws passed h)
 
 -- a step that is no load of a counter
-asked_quiet : (c : InitialState) (s : WriterStep) (ws : List WriterStep) → Asked c ws → (state_after c (s ∷ ws)).scan ≡ (state_after c ws).scan → (state_after c (s ∷ ws)).passed ≡ (state_after c ws).passed → Asked c (s ∷ ws)
-asked_quiet c s ws asked scan passed = record {
-  scanned = subst (λ z. (k : ℕ) → k < z.next → HasLetPass c.token (s ∷ ws) z.token k) (sym scan) (λ k lt. asked_still c s ws (state_after c ws).scan.token k (asked.scanned k lt));
-  passed = subst (λ n. (n ≡ 0) ⊎ IsChecked c.workers c.token (s ∷ ws) n) (sym passed) (passed_still c s ws (state_after c ws).passed asked.passed);
+scan_is_sound_quiet : (c : InitialState) (s : WriterStep) (ws : List WriterStep) → ScanIsSound c ws → (state_after c (s ∷ ws)).scan ≡ (state_after c ws).scan → (state_after c (s ∷ ws)).passed ≡ (state_after c ws).passed → ScanIsSound c (s ∷ ws)
+scan_is_sound_quiet c s ws sound scan passed = record {
+  scanned = subst (λ z. (k : ℕ) → k < z.next → HasLetPass c.token (s ∷ ws) z.token k) (sym scan) (λ k lt. let_pass_still c s ws (state_after c ws).scan.token k (sound.scanned k lt));
+  passed = subst (λ n. (n ≡ 0) ⊎ IsChecked c.workers c.token (s ∷ ws) n) (sym passed) (passed_still c s ws (state_after c ws).passed sound.passed);
 }
 
-scanned_more : (c : InitialState) (ws : List WriterStep) (token k0 counter : ℕ) → Asked c ws → token ≤ (state_after c ws).token → ((k0 ≡ 0) ⊎ (((state_after c ws).scan.next ≡ k0) × ((state_after c ws).scan.token ≡ token))) → lets_pass token counter ≡ true
+scanned_more : (c : InitialState) (ws : List WriterStep) (token k0 counter : ℕ) → ScanIsSound c ws → token ≤ (state_after c ws).token → ((k0 ≡ 0) ⊎ (((state_after c ws).scan.next ≡ k0) × ((state_after c ws).scan.token ≡ token))) → lets_pass token counter ≡ true
     → (k : ℕ) → k < suc k0 → HasLetPass c.token (LoadCounter token k0 counter ∷ ws) token k
-scanned_more c ws token k0 counter asked le next passes k lt =
+scanned_more c ws token k0 counter sound le next passes k lt =
     let s : WriterStep = LoadCounter token k0 counter in
     elim (eqb_tells k k0) [
-      | inl same ↦ subst (HasLetPass c.token (s ∷ ws) token) (sym same.1) (asked_now c ws token k0 counter le passes)
+      | inl same ↦ subst (HasLetPass c.token (s ∷ ws) token) (sym same.1) (let_pass_by_load c ws token k0 counter le passes)
       | inr other ↦ elim next [
         | inl first ↦ absurd (other.1 (omega (arith, first, lt)))
         | inr going ↦
             let below : k < (state_after c ws).scan.next = omega (arith, going.0, lt, other.1) in
-            asked_still c s ws token k (subst (λ t. HasLetPass c.token ws t k) going.1 (asked.scanned k below))
+            let_pass_still c s ws token k (subst (λ t. HasLetPass c.token ws t k) going.1 (sound.scanned k below))
       ]
     ]
 
-counter_asked : (c : InitialState) (ws : List WriterStep) (token k0 counter : ℕ) → Asked c ws → token ≤ (state_after c ws).token → ((k0 ≡ 0) ⊎ (((state_after c ws).scan.next ≡ k0) × ((state_after c ws).scan.token ≡ token))) → (b : Bool) → lets_pass token counter ≡ b
+scan_is_sound_by_load : (c : InitialState) (ws : List WriterStep) (token k0 counter : ℕ) → ScanIsSound c ws → token ≤ (state_after c ws).token → ((k0 ≡ 0) ⊎ (((state_after c ws).scan.next ≡ k0) × ((state_after c ws).scan.token ≡ token))) → (b : Bool) → lets_pass token counter ≡ b
     → ((k : ℕ) → k < cond b (suc k0) 0 → HasLetPass c.token (LoadCounter token k0 counter ∷ ws) token k)
     × ((cond (b && eqb (suc k0) c.workers) (max (state_after c ws).passed token) (state_after c ws).passed ≡ 0)
     ⊎ IsChecked c.workers c.token (LoadCounter token k0 counter ∷ ws) (cond (b && eqb (suc k0) c.workers) (max (state_after c ws).passed token) (state_after c ws).passed))
-counter_asked c ws token k0 counter asked le next false passes = (λ k lt. absurd (omega (arith, lt)), passed_still c (LoadCounter token k0 counter) ws (state_after c ws).passed asked.passed)
-counter_asked c ws token k0 counter asked le next true passes =
+scan_is_sound_by_load c ws token k0 counter sound le next false passes = (λ k lt. absurd (omega (arith, lt)), passed_still c (LoadCounter token k0 counter) ws (state_after c ws).passed sound.passed)
+scan_is_sound_by_load c ws token k0 counter sound le next true passes =
     let s : WriterStep = LoadCounter token k0 counter in
     let w : TableState = state_after c ws in
-    let more = scanned_more c ws token k0 counter asked le next passes in (
+    let more = scanned_more c ws token k0 counter sound le next passes in (
       more,
       by_number (λ b. (cond b (max w.passed token) w.passed ≡ 0) ⊎ IsChecked c.workers c.token (s ∷ ws) (cond b (max w.passed token) w.passed)) (suc k0) c.workers
           (λ last. elim (cases_lt w.passed token) [
             | inl greater ↦ inr (record { checked = token; later = omega (arith, greater); each = λ k lt. more k (omega (arith, lt, last.1)) })
             | inr stays ↦
                 let same : max w.passed token ≡ w.passed = omega (arith, stays) in
-                subst (λ n. (n ≡ 0) ⊎ IsChecked c.workers c.token (s ∷ ws) n) (sym same) (passed_still c s ws w.passed asked.passed)
+                subst (λ n. (n ≡ 0) ⊎ IsChecked c.workers c.token (s ∷ ws) n) (sym same) (passed_still c s ws w.passed sound.passed)
           ])
-          (λ other. passed_still c s ws w.passed asked.passed),
+          (λ other. passed_still c s ws w.passed sound.passed),
     )
 
-asked_more : (c : InitialState) (counters : ℕ → ℕ) (ws : List WriterStep) (s : WriterStep) → Asked c ws → MayWrite c counters (state_after c ws) s → Asked c (s ∷ ws)
-asked_more c counters ws (LoadCounter token k0 counter) asked may =
-    let both = counter_asked c ws token k0 counter asked may.2 may.3 (lets_pass token counter) refl in
+scan_is_sound_more : (c : InitialState) (counters : ℕ → ℕ) (ws : List WriterStep) (s : WriterStep) → ScanIsSound c ws → MayWrite c counters (state_after c ws) s → ScanIsSound c (s ∷ ws)
+scan_is_sound_more c counters ws (LoadCounter token k0 counter) sound may =
+    let both = scan_is_sound_by_load c ws token k0 counter sound may.2 may.3 (lets_pass token counter) refl in
     record { scanned = both.0; passed = both.1 }
-asked_more c counters ws s asked may = asked_quiet c s ws asked refl refl
+scan_is_sound_more c counters ws s sound may = scan_is_sound_quiet c s ws sound refl refl
 
-asked_trace : (c : InitialState) (steps : List TraceStep) → IsTrace c steps → Asked c (writes steps)
-asked_trace c [] trace = record { scanned = λ k lt. absurd (omega (arith, lt)); passed = inl refl }
-asked_trace c (Writer s ∷ steps) trace =
-    asked_more c (λ k. ((after c steps).workers k).counter) (writes steps) s (asked_trace c steps trace.1)
+scan_is_sound_in_trace : (c : InitialState) (steps : List TraceStep) → IsTrace c steps → ScanIsSound c (writes steps)
+scan_is_sound_in_trace c [] trace = record { scanned = λ k lt. absurd (omega (arith, lt)); passed = inl refl }
+scan_is_sound_in_trace c (Writer s ∷ steps) trace =
+    scan_is_sound_more c (λ k. ((after c steps).workers k).counter) (writes steps) s (scan_is_sound_in_trace c steps trace.1)
     (subst (λ w. MayWrite c (λ k. ((after c steps).workers k).counter) w s) (tables_of c steps) trace.0.0)
-asked_trace c (ByWorker k s ∷ steps) trace = asked_trace c steps trace.1
+scan_is_sound_in_trace c (ByWorker k s ∷ steps) trace = scan_is_sound_in_trace c steps trace.1
 
 pub passed_is_checked : PassedIsChecked
 passed_is_checked c steps token trace some le =
     let same : (state_after c (writes steps)).passed ≡ passed_after c.workers (writes steps) = passed_is c (writes steps) in
-    elim (asked_trace c steps trace).passed [
+    elim (scan_is_sound_in_trace c steps trace).passed [
       | inl none ↦ absurd (omega (arith, none, same, some, le))
       | inr h ↦ record { checked = h.checked; later = omega (arith, h.later, same, le); each = h.each }
     ]

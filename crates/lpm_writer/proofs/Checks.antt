@@ -22,9 +22,9 @@ go_on c x t k v pass more = elim (eqb_tells (suc k) c.workers) [
       ∙ ap (λ b. cond b (progress_after_pass x) (record x { next_step = Check t })) h.0
 ]
 
-pub next_ask : (c : InitialState) (steps : List WriterStep) (t k v : ℕ) → MayStep c steps (LoadCounter t k v) → lets_pass t v ≡ true → suc k < c.workers
+pub next_load_may_come : (c : InitialState) (steps : List WriterStep) (t k v : ℕ) → MayStep c steps (LoadCounter t k v) → lets_pass t v ≡ true → suc k < c.workers
     → (v' : ℕ) → MayStep c (LoadCounter t k v ∷ steps) (LoadCounter t (suc k) v')
-next_ask c steps t k v may pass more v' =
+next_load_may_come c steps t k v may pass more v' =
     let w' : TableState = state_after c (LoadCounter t k v ∷ steps) in
     let x' : WriterProgress = progress_after c (LoadCounter t k v ∷ steps) in
     let next_step : x'.next_step ≡ Check t = ap (λ (x : WriterProgress). x.next_step) (go_on c (progress_after c steps) t k v pass more) in
@@ -65,18 +65,18 @@ HasLoadedCounters did does m token k z = (c : InitialState) (steps : List Writer
 
 module _ {M : Type 0} (did : M → InitialState → List WriterStep → Type 0) (does : M → WriterStep → M → Type 0)
     (follows : (m : M) (s : WriterStep) (z : M) (c : InitialState) (steps : List WriterStep) → does m s z → did m c steps → MayStep c steps s → did z c (s ∷ steps)) where
-  pub asked_none : (m : M) (token : ℕ) → HasLoadedCounters did does m token 0 m
-  asked_none m token c steps d may = (steps, d, refl, may)
+  pub counters_loaded_none : (m : M) (token : ℕ) → HasLoadedCounters did does m token 0 m
+  counters_loaded_none m token c steps d may = (steps, d, refl, may)
 
-  pub asked_more : (m : M) (token k : ℕ) (y : M) (counter : ℕ) (z : M) → HasLoadedCounters did does m token k y → does y (LoadCounter token k counter) z
+  pub counters_loaded_more : (m : M) (token k : ℕ) (y : M) (counter : ℕ) (z : M) → HasLoadedCounters did does m token k y → does y (LoadCounter token k counter) z
       → lets_pass token counter ≡ true → (((c : InitialState) (steps : List WriterStep) → did m c steps → k < c.workers)) → HasLoadedCounters did does m token (k + 1) z
-  asked_more m token k y counter z asked loads pass below c steps d may =
-      let so_far = asked c steps d may in
+  counters_loaded_more m token k y counter z loaded loads pass below c steps d may =
+      let so_far = loaded c steps d may in
       let may_load = so_far.3 (below c steps d) counter in (
         LoadCounter token k counter ∷ so_far.0,
         follows y (LoadCounter token k counter) z c so_far.0 loads so_far.1 may_load,
         rw add-one ((y, so_far.0), counter, so_far.2, pass, (loads, refl)),
-        λ more. rw add-one (next_ask c so_far.0 token k counter may_load pass (omega (arith, more))),
+        λ more. rw add-one (next_load_may_come c so_far.0 token k counter may_load pass (omega (arith, more))),
       )
 
 pub quiet_same : (w : TableState) → SameTables w w
@@ -155,7 +155,7 @@ pub record HasPassed (c : InitialState) (steps : List WriterStep) (t : ℕ) (lat
   pub more : (state_after c steps).passed ≤ (state_after c later).passed
   pub passed : 0 < c.workers → t ≤ (state_after c later).passed
   pub idle : HasNothingDue c steps → HasNothingDue c later
-  -- where the workers were asked nothing is due, whatever was
+  -- where the counters were loaded nothing is due, whatever was
   pub over : 0 < c.workers → (state_after c steps).passed < t → HasNothingDue c later
   pub like : IsLike (progress_after c steps) (progress_after c later)
 
@@ -239,8 +239,8 @@ module _ {M : Type 0} (does : M → WriterStep → M → Type 0) (c : InitialSta
   check_stops x t busy z (inr h) = stopped x t busy z h.1
 
   -- all workers let a token pass that is above the greatest that had passed: it is the greatest then
-  pub asked_all : (x : WithSteps M) (t : ℕ) (z : WithSteps M) → (state_after c x.1).passed ≤ t → Loads does c.workers x t z → 0 < c.workers → t ≡ (state_after c z.1).passed
-  asked_all x t z below h some = last c.workers refl h
+  pub passed_where_all_pass : (x : WithSteps M) (t : ℕ) (z : WithSteps M) → (state_after c x.1).passed ≤ t → Loads does c.workers x t z → 0 < c.workers → t ≡ (state_after c z.1).passed
+  passed_where_all_pass x t z below h some = last c.workers refl h
     where
       last : (n : ℕ) → n ≡ c.workers → Loads does n x t z → t ≡ (state_after c z.1).passed
       last zero all h = absurd (omega (arith, all, some))
@@ -251,5 +251,5 @@ module _ {M : Type 0} (does : M → WriterStep → M → Type 0) (c : InitialSta
           omega (arith, end.0, old)
 
   -- a worker stopped the check: no greater token has passed
-  pub asked_busy : (x : WithSteps M) (t : ℕ) (busy : Busy) (z : WithSteps M) → LoadsUntilStopped does c.workers x t (Err busy) z → (state_after c z.1).passed ≡ (state_after c x.1).passed
-  asked_busy x t busy z h = (stopped x t busy z h).passed
+  pub passed_where_one_stops : (x : WithSteps M) (t : ℕ) (busy : Busy) (z : WithSteps M) → LoadsUntilStopped does c.workers x t (Err busy) z → (state_after c z.1).passed ≡ (state_after c x.1).passed
+  passed_where_one_stops x t busy z h = (stopped x t busy z h).passed

@@ -4,17 +4,17 @@ use Rattle.lpm_trace.specs.declared.step.WriterStep.TheVariants.{LoadCounter}
 use Rattle.std.specs.Prelude.{Err}
 use Rattle.lpm_limits.specs.declared.busy.Busy.{Busy}
 use Rattle.lpm_writer.specs.Traced.{LoadsUntilStopped, Loads}
-use Rattle.lpm_writer.proofs.Checks.{asked_none, asked_more, asked_all, asked_busy, passes_by}
+use Rattle.lpm_writer.proofs.Checks.{counters_loaded_none, counters_loaded_more, passed_where_all_pass, passed_where_one_stops, passes_by}
 use Rattle.lpm_writer.proofs.grace.check_token.Goals as goal
 
 pub loop-worker-init : goal.loop-worker-init
-loop-worker-init g c = record { asked = asked_none g.M.Memory.did g.M.Memory.does g.met.M.Memory.follows c.args.memory.now c.args.token }
+loop-worker-init g c = record { loaded = counters_loaded_none g.M.Memory.did g.M.Memory.does g.met.M.Memory.follows c.args.memory.now c.args.token }
 
 pub load_counter-counter-requires-clause-worker : goal.load_counter-counter-requires-clause-worker
 load_counter-counter-requires-clause-worker g c =
     let may = c.requires.may in
-    let ask = may.3 (omega (arith, c.if-token-passed.false)) in
-    let so_far = c.loop-worker.invariant.asked may.0 may.1 may.2 ask in
+    let may_load = may.3 (omega (arith, c.if-token-passed.false)) in
+    let so_far = c.loop-worker.invariant.loaded may.0 may.1 may.2 may_load in
     let now = (g.met.M.Memory.shows c.loop-worker.memory may.0 so_far.0 so_far.1).2 in
     let old = (g.met.M.Memory.shows c.args.memory.now may.0 may.1 may.2).2 in
     omega (arith, c.loop-worker-test.true, c.counter_count-worker-end.ensures, now, old)
@@ -22,15 +22,15 @@ load_counter-counter-requires-clause-worker g c =
 pub load_counter-counter-requires-clause-may : goal.load_counter-counter-requires-clause-may
 load_counter-counter-requires-clause-may g c = λ counter.
     let may = c.requires.may in
-    let ask = may.3 (omega (arith, c.if-token-passed.false)) in
-    let so_far = c.loop-worker.invariant.asked may.0 may.1 may.2 ask in
+    let may_load = may.3 (omega (arith, c.if-token-passed.false)) in
+    let so_far = c.loop-worker.invariant.loaded may.0 may.1 may.2 may_load in
     let old = (g.met.M.Memory.shows c.args.memory.now may.0 may.1 may.2).2 in
     (may.0, so_far.0, so_far.1, so_far.3 (omega (arith, c.loop-worker-test.true, c.counter_count-worker-end.ensures, old)) counter)
 
 pub returns-then-holds-clause-checks : goal.returns-then-holds-clause-checks
 returns-then-holds-clause-checks g c = λ s steps did known may.
     let more : c.args.passed.now < c.args.token = omega (arith, c.if-token-passed.false) in
-    let so_far = c.loop-worker.invariant.asked s steps did (may more) in
+    let so_far = c.loop-worker.invariant.loaded s steps did (may more) in
     let old = (g.met.M.Memory.shows c.args.memory.now s steps did).2 in
     let below : c.loop-worker.worker < s.workers = omega (arith, c.loop-worker-test.true, c.counter_count-worker-end.ensures, old) in
     let does = c.load_counter-counter.ensures.does in
@@ -38,11 +38,11 @@ returns-then-holds-clause-checks g c = λ s steps did known may.
     let next = LoadCounter c.args.token c.loop-worker.worker c.load_counter-counter.result in
     let later = next ∷ so_far.0 in
     let busy : Busy = record { worker = c.loop-worker.worker; counter = c.load_counter-counter.result } in
-    let asked : LoadsUntilStopped g.M.Memory.does s.workers (c.args.memory.now, steps) c.args.token (Err busy) (c.load_counter-counter.new.self, later) = ((c.loop-worker.memory, so_far.0), so_far.2, below, held.0, held.1, (does, refl)) in (
+    let stops : LoadsUntilStopped g.M.Memory.does s.workers (c.args.memory.now, steps) c.args.token (Err busy) (c.load_counter-counter.new.self, later) = ((c.loop-worker.memory, so_far.0), so_far.2, below, held.0, held.1, (does, refl)) in (
       later,
       g.met.M.Memory.follows c.loop-worker.memory next c.load_counter-counter.new.self s so_far.0 does so_far.1 (so_far.3 below c.load_counter-counter.result),
-      inr ((λ some. let k = known some in omega (arith, k, more)), asked),
-      λ some. known some ∙ sym (asked_busy g.M.Memory.does s (c.args.memory.now, steps) c.args.token busy (c.load_counter-counter.new.self, later) asked),
+      inr ((λ some. let k = known some in omega (arith, k, more)), stops),
+      λ some. known some ∙ sym (passed_where_one_stops g.M.Memory.does s (c.args.memory.now, steps) c.args.token busy (c.load_counter-counter.new.self, later) stops),
     )
 
 pub loop-worker-preserved : goal.loop-worker-preserved
@@ -55,20 +55,20 @@ loop-worker-preserved g c =
       | inr none ↦ inl (omega (arith, none))
     ] in
     record {
-      asked = asked_more g.M.Memory.did g.M.Memory.does g.met.M.Memory.follows c.args.memory.now c.args.token c.loop-worker.worker c.loop-worker.memory c.load_counter-counter.result c.load_counter-counter.new.self
-          c.loop-worker.invariant.asked c.load_counter-counter.ensures.does (passes_by c.args.token c.load_counter-counter.result passes)
+      loaded = counters_loaded_more g.M.Memory.did g.M.Memory.does g.met.M.Memory.follows c.args.memory.now c.args.token c.loop-worker.worker c.loop-worker.memory c.load_counter-counter.result c.load_counter-counter.new.self
+          c.loop-worker.invariant.loaded c.load_counter-counter.ensures.does (passes_by c.args.token c.load_counter-counter.result passes)
           (λ s steps did. let old = (g.met.M.Memory.shows c.args.memory.now s steps did).2 in omega (arith, c.loop-worker-test.true, c.counter_count-worker-end.ensures, old));
     }
 
 pub returns-clause-checks : goal.returns-clause-checks
 returns-clause-checks g c = λ s steps did known may.
     let more : c.args.passed.now < c.args.token = omega (arith, c.if-token-passed.false) in
-    let so_far = c.loop-worker.invariant.asked s steps did (may more) in
+    let so_far = c.loop-worker.invariant.loaded s steps did (may more) in
     let old = (g.met.M.Memory.shows c.args.memory.now s steps did).2 in
     let all : c.loop-worker.worker ≡ s.workers = omega (arith, old) in
     let loads = subst (λ n. Loads g.M.Memory.does n (c.args.memory.now, steps) c.args.token (c.loop-worker.memory, so_far.0)) all so_far.2 in (
       so_far.0,
       so_far.1,
       inr ((λ some. let k = known some in omega (arith, k, more)), loads),
-      λ some. asked_all g.M.Memory.does s (c.args.memory.now, steps) c.args.token (c.loop-worker.memory, so_far.0) (let k = known some in omega (arith, k, more)) loads some,
+      λ some. passed_where_all_pass g.M.Memory.does s (c.args.memory.now, steps) c.args.token (c.loop-worker.memory, so_far.0) (let k = known some in omega (arith, k, more)) loads some,
     )
