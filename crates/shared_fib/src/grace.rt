@@ -82,7 +82,7 @@ fn start_token<const FIRST: u32, const SECOND: u32>(
 }
 
 /// Checks the token that was started.
-fn check_token<const FIRST: u32, const SECOND: u32>(
+fn check_started_token<const FIRST: u32, const SECOND: u32>(
     control: &mut ControlState<FIRST, SECOND>,
     seat: &mut WriterSeat,
     table: &Words<FIRST, SECOND>,
@@ -188,7 +188,7 @@ impl<const FIRST: u32, const SECOND: u32> GracePeriod<FIRST, SECOND> {
             mut control,
             mut seat,
         } = self;
-        match check_token(&mut control, &mut seat, &table.words) {
+        match check_started_token(&mut control, &mut seat, &table.words) {
             Ok(()) => Ok(Writer::new(control, seat)),
             Err(busy) => Err(Held {
                 period: GracePeriod::new(control, seat),
