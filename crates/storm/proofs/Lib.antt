@@ -1,4 +1,4 @@
 pub mod Meetings
-pub mod Told
+pub mod PassAnswers
 pub mod Versions
 pub mod Logs

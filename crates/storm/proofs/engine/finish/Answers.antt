@@ -11,7 +11,7 @@ use Rattle.storm.specs.Writer.{HasVersions, addition_of, changes_by, refused_amo
 use Rattle.storm.specs.Workers.{answers_of_passes, answers_of_workers, times}
 use Rattle.storm.specs.declared.workers.Worker.{Worker}
 use Rattle.storm.specs.Storm.{Settles}
-use Rattle.storm.proofs.Told.{addresses_of, all_held, all_looked, all_of_addresses, all_right, all_times, count_all}
+use Rattle.storm.proofs.PassAnswers.{addresses_of, all_held, all_looked, all_of_addresses, all_right, all_times, count_all}
 use Rattle.storm.proofs.Versions.{changes_behind, changes_within, first_version, none_wrong, rules_within, settled_versions}
 use Rattle.storm.proofs.Meetings.{of_workers, passes_of}
 use Rattle.storm.proofs.engine.finish.Goals as goal

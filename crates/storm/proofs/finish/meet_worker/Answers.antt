@@ -1,6 +1,6 @@
 use Rattle.std.proofs.Common.{◌∙◌}
 use Rattle.shared_fib.specs.Running.{steps_of}
-use Rattle.storm.proofs.Told.{looked_up}
+use Rattle.storm.proofs.PassAnswers.{looked_up}
 use Rattle.storm.proofs.finish.meet_worker.Goals as goal
 
 pub returns-clause-answered : goal.returns-clause-answered

@@ -2,7 +2,7 @@ use Rattle.std.proofs.Common.{◌∙◌, ◌++◌, [], ◌∷◌, ℕ, List, ap,
 use Rattle.std.proofs.lemmas.List.{map-append, take_more}
 use Rattle.lpm_rules.specs.declared.Answer.{Answer}
 use Rattle.shared_fib.specs.Running.{initial_state}
-use Rattle.storm.proofs.Told.{told_more}
+use Rattle.storm.proofs.PassAnswers.{told_more}
 use Rattle.storm.proofs.workers.look_once.Goals as goal
 
 abbrev address_of : ℕ × Answer → ℕ

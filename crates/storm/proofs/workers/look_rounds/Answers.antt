@@ -2,7 +2,7 @@ use Rattle.std.proofs.Common.{◌≡◌, ◌+◌, ◌∙◌, refl, arith, rules,
 use Rattle.lpm_trace.specs.declared.step.WorkerStep.TheVariants.{LoadQuiescent, StoreQuiescent}
 use Rattle.shared_fib.specs.Running.{initial_state}
 use Rattle.storm.specs.Workers.{times}
-use Rattle.storm.proofs.Told.{kept_by_two, told_on, length_rounds, one_more_round}
+use Rattle.storm.proofs.PassAnswers.{kept_by_two, told_on, length_rounds, one_more_round}
 use Rattle.storm.proofs.workers.look_rounds.Goals as goal
 
 pub loop-round-preserved : goal.loop-round-preserved

@@ -1,4 +1,4 @@
--- Lookups of a pass, as it goes on.
+-- The answers of a pass, as it goes on, and those of all workers.
 use Rattle.std.proofs.Common.{◌≡◌, ◌≤◌, ℕ, List, [], ◌∷◌, ◌++◌, All, map, refl, ap, sym, subst, ◌∙◌, length, arith, zero, suc, ◌+◌, ◌*◌, length-append, ap₂}
 use Rattle.std.specs.Prelude.{reverse}
 use mathlib.Core.List.{reverse-cons, map-map}
