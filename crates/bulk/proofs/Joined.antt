@@ -16,7 +16,7 @@ use Rattle.lpm_rules.specs.Longest.{AreLongestHops}
 
 -- The pieces of a list, one after another, are the list.
 
--- the borders rise
+-- the starts rise
 pub rises : (k n w : ℕ) → 0 < w → k * n / w ≤ (k + 1) * n / w
 rises k n w pos =
     let part = div-mul-le_self (k * n) w in
@@ -39,7 +39,7 @@ first_pieces-more xs w k pos e =
     ∙ (ap (λ l. flat_map (λ l. l) (first_pieces xs w k) ++ l) (append-nil (piece_of xs w k))
     ∙ more xs _ _ _ (rises k (length xs) w pos) e))
 
--- the first pieces are what stands before the next border
+-- the first pieces are what stands before the next start
 pub first_pieces-joined : (xs : List ℕ) (w k : ℕ) → 0 < w
     → flat_map (λ l. l) (first_pieces xs w k) ≡ take (piece_start_before k (length xs) w) xs
 first_pieces-joined xs w zero pos =

@@ -6,7 +6,7 @@ use Rattle.std.specs.List.{range_with_len}
 abbrev pub piece_start_before : ℕ → ℕ → ℕ → ℕ
 piece_start_before k n w = k * n / w
 
--- piece k of w: the addresses from its border up to, and not including, the next one
+-- piece k of w: the addresses from its start up to, and not including, the next one
 abbrev pub piece_of : List ℕ → ℕ → ℕ → List ℕ
 piece_of addrs w k =
     let from = piece_start_before k (length addrs) w in

@@ -16,7 +16,7 @@ pub struct Piece<'a> {
 }
 
 /// How many of `addrs` addresses stand before piece number `piece` of as many pieces as workers,
-/// counted from 0. Piece `k` goes from border `k` up to, and not including, border `k + 1`.
+/// counted from 0. Piece `k` goes from start `k` up to, and not including, start `k + 1`.
 pub fn piece_start(piece: usize, addrs: usize, workers: usize) -> usize
     requires workers { 0 < workers }
     requires piece { piece ≤ workers }
