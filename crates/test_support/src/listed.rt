@@ -124,3 +124,13 @@ pub fn hop_number(hop: Option<Hop>) -> Option<u32> {
         None => None,
     }
 }
+
+/// Whether the next hops have these numbers, in this order; none for a miss.
+pub fn are_hops(hops: &[Option<Hop>], numbers: &[Option<u32>]) -> bool {
+    if hops.len() != numbers.len() {
+        return false;
+    }
+    hops.iter()
+        .zip(numbers.iter())
+        .all(|(hop, number)| hop_number(*hop) == *number)
+}

@@ -14,7 +14,7 @@ use std::alloc::{AllocError, Global};
 use std::net::Ipv4Addr;
 use std::process::Abort;
 use std::test::Fail;
-use test_support::{Row, USUAL, draw, hop_number, limits};
+use test_support::{Row, USUAL, are_hops, draw, hop_number, limits};
 
 pub(crate) fn prefix<const FIRST: u32, const SECOND: u32>(
     rt: &impl Abort,
@@ -272,13 +272,7 @@ fn three_routes(rt: &impl Abort, alloc: Global) -> Vec<Order<24, 8>> {
 // 10.1.1.128, 11.0.0.0, 10.1.1.127 and 10.2.0.0, and their next hops by the three routes.
 const FOUR: [u32; 4] = [0x0a01_0180, 0x0b00_0000, 0x0a01_017f, 0x0a02_0000];
 
-fn assert_hops(rt: &impl Abort, hops: &[Option<Hop>]) {
-    let numbers = [Some(3), None, Some(2), Some(1)];
-    assert_at(rt, "hops", hops.len(), 4);
-    for (hop, number) in hops.iter().zip(numbers.iter()) {
-        assert_at(rt, "hop", hop_number(*hop), *number);
-    }
-}
+static NUMBERS: [Option<u32>; 4] = [Some(3), None, Some(2), Some(1)];
 
 fn assert_reads(rt: &impl Abort, fib: &Fib<24, 8>) {
     let route = prefix(rt, 0x0a01_0000, 16);
@@ -292,7 +286,7 @@ fn assert_reads(rt: &impl Abort, fib: &Fib<24, 8>) {
 
 fn assert_all_found(rt: &impl Abort, alloc: Global, fib: &Fib<24, 8>) {
     let hops = fib.lookup_all(alloc, &FOUR).expect(rt, "memory");
-    assert_hops(rt, &hops);
+    assert!(rt; are_hops(&hops, &NUMBERS));
 }
 
 // The three routes are added, and then answer.
@@ -318,7 +312,7 @@ fn assert_replay(rt: &impl Abort, replay: &Replay) {
         figures_of_replay(replay),
         (3, 3, 1, 0, 255, 1),
     );
-    assert_hops(rt, &replay.hops);
+    assert!(rt; are_hops(&replay.hops, &NUMBERS));
 }
 
 #[test]

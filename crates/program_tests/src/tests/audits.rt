@@ -6,7 +6,7 @@ use lpm_bits::Hop;
 use lpm_rules::{Put, Rule, Rules};
 use std::alloc::Global;
 use std::process::Abort;
-use test_support::{MANY, Plain, THREE, block, hop_number, rule_of};
+use test_support::{MANY, Plain, THREE, are_hops, block, hop_number, rule_of};
 
 fn put(rt: &impl Abort, rules: &mut Rules<24, 8>, plain: Plain) {
     let Rule { prefix, hop } = rule_of::<24, 8>(plain).expect(rt, "a rule");
@@ -20,23 +20,13 @@ fn put_three(rt: &impl Abort, rules: &mut Rules<24, 8>) {
 }
 
 // 10.1.1.127, 10.1.1.128, 10.2.0.0 and 11.0.0.0 go to 2, 3, 1 and nowhere.
-fn assert_hops(rt: &impl Abort, hops: &[Option<Hop>]) {
-    let numbers = [Some(2), Some(3), Some(1), None];
-    assert_at(rt, "hops", hops.len(), 4);
-    for (hop, number) in hops.iter().zip(numbers.iter()) {
-        assert_at(rt, "hop", hop_number(*hop), *number);
-    }
-}
-
 #[test]
 fn expects_the_longest(rt: HostRuntime) {
     let addrs = [0x0a01_017f, 0x0a01_0180, 0x0a02_0000, 0x0b00_0000];
     let mut rules = Rules::new(rt.alloc(), 3);
     put_three(&rt, &mut rules);
-    assert_hops(
-        &rt,
-        &expect(&rt, rt.alloc(), &rules, &addrs).expect(&rt, "memory"),
-    );
+    let hops = expect(&rt, rt.alloc(), &rules, &addrs).expect(&rt, "memory");
+    assert!(&rt; are_hops(&hops, &[Some(2), Some(3), Some(1), None]));
     let none = expect(&rt, rt.alloc(), &rules, &[]).expect(&rt, "memory");
     assert_at(&rt, "no addresses", none.len(), 0);
 }

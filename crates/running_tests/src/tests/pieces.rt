@@ -7,7 +7,6 @@ use super::asserting::assert_at;
 use super::changing::{Ipv4Table, Ipv4Writer, SmallTable, SmallWriter};
 use bulk::{BulkError, Desk, Open, bulk, bulk_plain, piece_start, seat_all};
 use fib::Fib;
-use lpm_bits::Hop;
 use lpm_limits::{Config, Refusal};
 use lpm_rules::{Put, Rule};
 use shared_fib::Bench;
@@ -15,7 +14,7 @@ use std::alloc::Global;
 use std::process::Abort;
 use std::test::Fail;
 use std::thread::Threads;
-use test_support::{Meeting, THREE, hop_number, rule_of};
+use test_support::{Meeting, THREE, are_hops, rule_of};
 
 fn add_three(rt: &impl Abort, fib: &mut Fib<24, 8>) {
     for plain in &THREE {
@@ -36,18 +35,11 @@ static FIVE: [u32; 5] = [
 // The numbers of their next hops.
 static NUMBERS: [Option<u32>; 5] = [Some(2), Some(3), Some(1), None, Some(3)];
 
-// The next hops of the five addresses.
-fn assert_hops(rt: &impl Abort, workers: usize, hops: &[Option<Hop>]) {
-    assert_at(rt, workers, hops.len(), FIVE.len());
-    for (hop, number) in hops.iter().zip(NUMBERS.iter()) {
-        assert_at(rt, workers, hop_number(*hop), *number);
-    }
-}
-
 // The five addresses, by a table of one thread with so many workers.
 fn assert_five<R: Abort + Threads + Sync>(rt: &R, alloc: Global, fib: &Fib<24, 8>, workers: usize) {
     let answered = bulk_plain(rt, alloc, fib, workers, &FIVE, &Open);
-    assert_hops(rt, workers, &answered.expect(rt, "answers"));
+    let hops = answered.expect(rt, "answers");
+    assert_at(rt, workers, are_hops(&hops, &NUMBERS), true);
 }
 
 // Among the numbers of workers are more than addresses, and far more.
@@ -100,12 +92,13 @@ fn assert_five_at_desks<R: Abort + Threads + Sync>(
     let again = bulk(rt, alloc, table, writer, desks, &FIVE, &Open);
     match first {
         Ok(hops) => {
-            assert_hops(rt, workers, &hops);
-            assert_hops(rt, workers, &again?);
+            assert_at(rt, workers, are_hops(&hops, &NUMBERS), true);
+            assert_at(rt, workers, are_hops(&again?, &NUMBERS), true);
         }
         Err(error) => {
             assert_at(rt, workers, error, BulkError::Memory);
-            assert_hops(rt, workers, &again.expect(rt, "answers"));
+            let hops = again.expect(rt, "answers");
+            assert_at(rt, workers, are_hops(&hops, &NUMBERS), true);
         }
     }
     Ok(())
