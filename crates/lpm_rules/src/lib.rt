@@ -421,7 +421,7 @@ impl<const FIRST: u32, const SECOND: u32> Rules<FIRST, SECOND> {
     {
         let _ = &self.lengths;
         let prefix = Prefix::new(addr, len).ok()?;
-        let hop = self.get(&prefix)?;
+        let hop = self.of_length(len).get(&prefix.bits()).copied()?;
         Some(Rule { prefix, hop })
     }
 }

@@ -48,13 +48,13 @@ impl UnlinkGroup {
         // All words of the group are one by now, which takes the place of the link.
         let block = self.block;
         self.unlinked = true;
-        match Entry::of_word(cells.first(block)) {
-            Entry::Group(group) => {
+        match Entry::group_of_word::<FIRST, SECOND>(cells.first(block)) {
+            Some(group) => {
                 let word = cells.second((group as usize) << SECOND);
                 cells.set_first(block, word);
                 return Did::Unlinked { block, group };
             }
-            _ => unreachable!(),
+            None => unreachable!(),
         }
     }
 }
