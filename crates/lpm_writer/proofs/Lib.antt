@@ -13,3 +13,4 @@ pub mod LimboItems
 pub mod StepsAlone
 pub mod Initial
 pub mod Unchanged
+pub mod Takes

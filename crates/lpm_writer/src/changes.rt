@@ -9,13 +9,14 @@ ghost use Rattle.lpm_writer.specs.Commands.{Rests};
 ghost use Rattle.lpm_writer.specs.Traced.{by_writer};
 
 use super::control::ControlState;
-use super::limbo::retire_group;
+use super::limbo::free_waiting;
 use crate::Memory;
 use lpm_trace::RuleChange;
 use lpm_update::Update;
 
 /// Makes the whole update of a change of the rules, which the rule list has already: it begins, its
-/// stores are made, upwards, and it is done. Each group that it unlinks goes into limbo directly after.
+/// stores are made, upwards, and it is done. Each group that it unlinks goes into limbo directly after, under a
+/// token of its own. Where more than the threshold wait already, some are reclaimed first.
 pub(crate) fn change<const FIRST: u32, const SECOND: u32, M: Memory>(
     control: &mut ControlState<FIRST, SECOND>,
     memory: &mut M,
@@ -40,7 +41,12 @@ pub(crate) fn change<const FIRST: u32, const SECOND: u32, M: Memory>(
     memory.open_update(rule_change);
     let mut update = update;
     while let Some(group) = update.run::<FIRST, SECOND, M>(memory) {
-        retire_group(&mut control.pool, memory, group, &control.config);
+        let token = memory.bump();
+        control.pool.groups.retire(group);
+        if control.pool.queue.len() > control.config.threshold {
+            free_waiting(&mut control.pool, memory, control.config.reclaim_max);
+        }
+        control.pool.queue.retire(group, token);
     }
     memory.close_update();
     control.versions += 1;

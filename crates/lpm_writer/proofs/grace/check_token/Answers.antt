@@ -13,7 +13,7 @@ loop-worker-init g c = record { loaded = counters_loaded_none g.M.Memory.did g.M
 pub load_counter-counter-requires-clause-worker : goal.load_counter-counter-requires-clause-worker
 load_counter-counter-requires-clause-worker g c =
     let may = c.requires.may in
-    let may_load = may.3 (omega (arith, c.if-token-passed.false)) in
+    let may_load = may.3 (omega arith) in
     let so_far = c.loop-worker.invariant.loaded may.0 may.1 may.2 may_load in
     let now = (g.met.M.Memory.shows c.loop-worker.memory may.0 so_far.0 so_far.1).2 in
     let old = (g.met.M.Memory.shows c.args.memory.now may.0 may.1 may.2).2 in
@@ -22,14 +22,14 @@ load_counter-counter-requires-clause-worker g c =
 pub load_counter-counter-requires-clause-may : goal.load_counter-counter-requires-clause-may
 load_counter-counter-requires-clause-may g c = λ counter.
     let may = c.requires.may in
-    let may_load = may.3 (omega (arith, c.if-token-passed.false)) in
+    let may_load = may.3 (omega arith) in
     let so_far = c.loop-worker.invariant.loaded may.0 may.1 may.2 may_load in
     let old = (g.met.M.Memory.shows c.args.memory.now may.0 may.1 may.2).2 in
     (may.0, so_far.0, so_far.1, so_far.3 (omega (arith, c.loop-worker-test.true, c.counter_count-worker-end.ensures, old)) counter)
 
 pub returns-then-holds-clause-checks : goal.returns-then-holds-clause-checks
 returns-then-holds-clause-checks g c = λ s steps did known may.
-    let more : c.args.passed.now < c.args.token = omega (arith, c.if-token-passed.false) in
+    let more : c.args.passed.now < c.args.token = omega arith in
     let so_far = c.loop-worker.invariant.loaded s steps did (may more) in
     let old = (g.met.M.Memory.shows c.args.memory.now s steps did).2 in
     let below : c.loop-worker.worker < s.workers = omega (arith, c.loop-worker-test.true, c.counter_count-worker-end.ensures, old) in
@@ -62,7 +62,7 @@ loop-worker-preserved g c =
 
 pub returns-clause-checks : goal.returns-clause-checks
 returns-clause-checks g c = λ s steps did known may.
-    let more : c.args.passed.now < c.args.token = omega (arith, c.if-token-passed.false) in
+    let more : c.args.passed.now < c.args.token = omega arith in
     let so_far = c.loop-worker.invariant.loaded s steps did (may more) in
     let old = (g.met.M.Memory.shows c.args.memory.now s steps did).2 in
     let all : c.loop-worker.worker ≡ s.workers = omega (arith, old) in
