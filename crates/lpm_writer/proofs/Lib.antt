@@ -14,3 +14,4 @@ pub mod StepsAlone
 pub mod Initial
 pub mod Unchanged
 pub mod Takes
+pub mod GivenUp

@@ -1,16 +1,14 @@
 -- Meaning: what a writer keeps of its groups is what its steps say (DPDK Programmer's Guide,
 -- "RCU Library", the defer queue of "LPM Library": a group waits with the token of its own unlinking).
-use Rattle.std.specs.Prelude.{ℕ, ◌≡◌, ◌≢◌, suc, ◌<◌, ◌≤◌, ◌⊎◌, ⊤, true, List, [], ◌∷◌, ◌++◌, slice_set, Option, Some, None}
+use Rattle.std.specs.Prelude.{ℕ, ◌≡◌, ◌≢◌, ◌<◌, ◌≤◌, ◌⊎◌, ⊤, true, List, [], ◌∷◌, Option, Some, None}
 use Rattle.defer_queue.specs.Retired.{IsAbsent}
 use Rattle.lpm_groups.specs.declared.GroupState.{GroupState}
-use Rattle.lpm_groups.specs.declared.GroupState.TheVariants.{Limbo}
 use Rattle.lpm_groups.specs.States.{IsFreeAt, IsLinkedTo}
 use Rattle.lpm_trace.specs.declared.step.WriterStep.{WriterStep}
 use Rattle.lpm_trace.specs.declared.step.WriterStep.TheVariants.{LoadCounter}
 use Rattle.lpm_trace.specs.States.{InitialState, TableState, Status, Retired, Linked, state_after, IsFree, IsUpdating}
-use Rattle.lpm_trace.specs.Progress.{Nothing, Bump}
+use Rattle.lpm_trace.specs.Progress.{Nothing}
 use Rattle.lpm_trace.specs.Writer.{progress_after, MayStep}
-use Rattle.lpm_writer.specs.declared.pool.GroupPool.{GroupPool}
 use Rattle.lpm_writer.specs.Waiting.{tokens_of}
 
 -- each token is greater than t
@@ -102,25 +100,5 @@ pub record GroupsMatchSteps (c : InitialState) (steps : List WriterStep) (states
 pub record OnlyChecks (c : InitialState) (steps later : List WriterStep) : Type 0 where
   pub quiet : SameTables (state_after c steps) (state_after c later)
   pub token : (state_after c later).token ≡ (state_after c steps).token
-  pub taken : (progress_after c later).taken ≡ (progress_after c steps).taken
-  pub idle : HasNothingDue c later
-
--- the update has just stored over the link of this group. The token is bumped next: from then on the
--- group is retired under that token, behind the groups that wait.
-pub record HasUnlinked (c : InitialState) (steps : List WriterStep) (pool : GroupPool) (group : ℕ)
-    (held : Option ℕ) : Type 0 where
-  pub next_step : (progress_after c steps).next_step ≡ Bump
-  pub awaited : (progress_after c steps).awaited ≡ None
-  pub kept : GroupsMatchState c (state_after c steps) (suc (state_after c steps).token)
-      (slice_set pool.groups group Limbo)
-      (pool.queue.items ++ (group, suc (state_after c steps).token) ∷ []) held
-  pub remembers : Remembers c steps pool.passed
-  -- each group that waited was retired under a token that had been started
-  pub started : AreBelow (suc (state_after c steps).token) pool.queue.items
-
--- the token was bumped once, and checks were made at most
-pub record HasRetired (c : InitialState) (steps later : List WriterStep) : Type 0 where
-  pub quiet : SameTables (state_after c steps) (state_after c later)
-  pub token : (state_after c later).token ≡ suc (state_after c steps).token
   pub taken : (progress_after c later).taken ≡ (progress_after c steps).taken
   pub idle : HasNothingDue c later

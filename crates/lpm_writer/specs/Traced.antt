@@ -1,14 +1,13 @@
 -- This layer's own: a memory together with the writer's steps that led to it, and the parts of a change as
 -- what they lead to; by the steps alone they stand in `Steps`.
-use Rattle.std.specs.Prelude.{ℕ, zero, suc, ◌≡◌, ◌<◌, ◌≤◌, ◌⊎◌, true, List, [], ◌∷◌, ◌++◌, Some, None, Result, Ok, Err}
+use Rattle.std.specs.Prelude.{ℕ, zero, suc, ◌≡◌, ◌<◌, ◌≤◌, ◌⊎◌, true, List, ◌∷◌, Some, None, Result, Ok, Err}
 use Rattle.lpm_cells.specs.Words.{group_in}
 use Rattle.lpm_limits.specs.declared.busy.Busy.{Busy}
-use Rattle.lpm_limits.specs.declared.config.Config.{Config}
 use Rattle.lpm_trace.specs.declared.step.RuleChange.{RuleChange}
 use Rattle.lpm_trace.specs.declared.step.WriterStep.{WriterStep}
 use Rattle.lpm_trace.specs.declared.step.WriterStep.TheVariants.{StoreFirst, StoreSecond, BeginUpdate, EndUpdate, BumpToken, LoadCounter}
 use Rattle.lpm_trace.specs.States.{InitialState, TableState, state_after, lets_pass, first_entry}
-use Rattle.fib_model.specs.State.{Transitions, MakesRoom}
+use Rattle.fib_model.specs.State.{Transitions}
 
 -- a memory, and the writer's steps that led to it, the newest first
 abbrev pub WithSteps : Type 0 → Type 0
@@ -87,11 +86,3 @@ by_writer does c = record {
   ends = StoresAndCloses does c;
   token = λ x. (state_of_traced c x).token;
 }
-
--- a token was started for a group that was just unlinked, room was made in limbo, and the group went
--- last into it
-abbrev pub Retires : {M : Type 0} → (M → WriterStep → M → Type 0) → InitialState → Config → WithSteps M
-    → List ℕ → WithSteps M → List ℕ → Type 0
-Retires {M} does c config x limbo z limbo' = (y : WithSteps M) × (left : List ℕ)
-    × Goes does x BumpToken y × MakesRoom (by_writer does c) config y limbo left z
-    × (limbo' ≡ left ++ (state_of_traced c y).token ∷ [])

@@ -6,6 +6,7 @@ use Rattle.lpm_update.specs.Update.{group_held}
 use Rattle.lpm_trace.specs.declared.step.WriterStep.{WriterStep}
 use Rattle.lpm_trace.specs.declared.step.WriterStep.TheVariants.{BeginUpdate, BumpToken, EndUpdate}
 use Rattle.lpm_trace.specs.States.{InitialState}
+use Rattle.lpm_writer.proofs.GivenUp.{HasRetired, HasUnlinked, Retires}
 use Rattle.lpm_writer.proofs.Making.{MayMake, HasMade}
 use Rattle.lpm_writer.specs.Resting.{IsDue, IsResting}
 use Rattle.lpm_writer.proofs.Rests.{due_step, due_few, due_opened, due_closed}
@@ -21,8 +22,8 @@ use Rattle.lpm_trace.specs.States.{state_after}
 use Rattle.lpm_update.specs.declared.update.Update.{Update}
 use Rattle.lpm_writer.specs.declared.pool.GroupPool.{GroupPool}
 use Rattle.lpm_writer.specs.declared.control.ControlState.{ControlState}
-use Rattle.lpm_writer.specs.Matching.{GroupsMatchSteps, HasRetired, HasUnlinked, MayReclaim, OnlyChecks}
-use Rattle.lpm_writer.specs.Traced.{Retires, WithSteps, by_writer}
+use Rattle.lpm_writer.specs.Matching.{GroupsMatchSteps, MayReclaim, OnlyChecks}
+use Rattle.lpm_writer.specs.Traced.{WithSteps, by_writer}
 use Rattle.std.proofs.Math.ListN.{length-set}
 use Rattle.std.specs.Option.{option_map}
 use Rattle.lpm_groups.specs.States.{is_linked}
@@ -212,7 +213,7 @@ loop-group-preserved g c =
     let linked = unlinked.0 in
     let queued = x.invariant.under_way.queued in
     let h = unlinked.1 in
-    let done = made g c linked.0 linked.1 h.0 h.1 h.2 h.3 h.4 in
+    let done = made g at.After-retire-in-Some linked.0 linked.1 h.0 h.1 h.2 h.3 h.4 in
     let made = done.0 in
     let retires : Retiring g c.run.new.cells old n config c.if-len-control.memory (record y { queue = c.retire-in-Some.new.self }) = λ s steps held did h.
     let now = (state_after s steps).token in
@@ -263,7 +264,7 @@ loop-group-smaller g c =
     let unlinked = unlinked g at.After-bump-token (begins g at.After-open_update) in
     let linked = unlinked.0 in
     let h = unlinked.1 in
-    omega (arith, retired_linked x c.if-len-control.control.pool c.in-Some.group linked.0 linked.1 (made g c linked.0 linked.1 h.0 h.1 h.2 h.3 h.4).0)
+    omega (arith, retired_linked x c.if-len-control.control.pool c.in-Some.group linked.0 linked.1 (made g at.After-retire-in-Some linked.0 linked.1 h.0 h.1 h.2 h.3 h.4).0)
 
 pub close_update-requires : goal.close_update-requires
 close_update-requires g c =
