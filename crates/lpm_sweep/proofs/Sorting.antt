@@ -1,11 +1,11 @@
 -- Rules that are sorted by keys are in order, and are the same rules.
-use Rattle.std.proofs.Common.{arith, ◌≡◌, ◌≢◌, ℕ, zero, suc, ◌%◌, ◌^◌, ◌<◌, ◌≤◌, ◌⊎◌, inl, inr, refl, ap, sym, ◌∙◌, subst, List, [], ◌∷◌, length, add-one, get_or, take, Some, None}
+use Rattle.std.proofs.Common.{arith, ◌≡◌, ◌≢◌, ℕ, zero, suc, ◌%◌, ◌^◌, ◌<◌, ◌≤◌, ◌⊎◌, inl, inr, refl, ap, sym, ◌∙◌, subst, List, [], ◌∷◌, ◌++◌, ◌+◌, map, length, add-one, get_or, take, below_more, length-append, Some, None}
 use Rattle.std.specs.Prelude.{slice_index, slice_get}
 use Rattle.std.specs.List.{All}
 use Rattle.std.specs.List.Sorted.{IsPermutation, IsNonDecreasing}
 use Rattle.std.specs.FinMap.{get, insert, get-empty, same_map}
 use Rattle.std.proofs.lemmas.Bool.{cases_lt, cases_eq}
-use Rattle.std.proofs.lemmas.List.{get_or-map, take_all, get_or_default}
+use Rattle.std.proofs.lemmas.List.{get_or-map, get_or_append_left, get_or_at, length-map, map-append, take_all, get_or_default}
 use Rattle.std.proofs.lemmas.List.Elements.{All-get_or, All-from_get_or, Contains-get_or}
 use Rattle.std.proofs.lemmas.List.Sorted.{All-permutation, Contains-permutation, length_permutation}
 use Rattle.std.proofs.lemmas.Option.{slice_get-get_or}
@@ -14,7 +14,17 @@ use Rattle.lpm_rules.specs.RuleMap.{RuleMap, network_cmp, AreInOrder, place, pre
 use Rattle.lpm_rules.specs.declared.Rule.{Rule}
 use Rattle.lpm_rules.proofs.Views.{insert_cases, insert_here, networks_total, exact_networks, prefix_read, rules_more}
 use Rattle.lpm_sweep.specs.Listed.{AreReordered}
-use Rattle.lpm_sweep.specs.Keys.{AreKeys, AreTaken, hop_at, key_at}
+use Rattle.lpm_sweep.specs.Keys.{AreKeys, key_at}
+
+-- the next hop of the rule at a place of the list
+abbrev pub hop_at : {f s : ℕ} → List (Rule f s) → ℕ → ℕ
+hop_at {f} {s} rs k = slice_index (map (λ (r : Rule f s). r.hop) rs) k
+
+-- the rules ys are those of xs that the first n keys name
+pub record AreTaken {f s : ℕ} (xs : List (Rule f s)) (ks : List ℕ) (ys : List (Rule f s)) (n : ℕ) : Type 0 where
+  pub all : length ys ≡ n
+  pub prefixes : (k : ℕ) → k < n → prefix_at ys k ≡ prefix_at xs (slice_index ks k % 2 ^ 26)
+  pub hops : (k : ℕ) → k < n → hop_at ys k ≡ hop_at xs (slice_index ks k % 2 ^ 26)
 
 same_network : (p q : Network) → p.bits ≡ q.bits → p.len ≡ q.len → p ≡ q
 same_network p q bits len i = record { bits = bits i; len = len i }
@@ -30,6 +40,30 @@ cases_network p q = elim (cases_eq p.bits q.bits) [
 
 pub hop_read : {f s : ℕ} (rs : List (Rule f s)) (k : ℕ) (r : Rule f s) → k < length rs → r ≡ get_or rs k r → hop_at rs k ≡ r.hop
 hop_read {f} {s} rs k r h e = get_or-map (λ (x : Rule f s). x.hop) rs k r 0 h ∙ ap (λ (x : Rule f s). x.hop) (sym e)
+
+-- what stands before the last place is what stood there
+read_before : {X Y : Type 0} (g : X → Y) (d : Y) (ys zs : List X) (r : X) (k : ℕ) → zs ≡ ys ++ (r ∷ []) → k < length ys → get_or (map g zs) k d ≡ get_or (map g ys) k d
+read_before g d ys zs r k more h =
+    ap (λ l. get_or (map g l) k d) more
+    ∙ (ap (λ l. get_or l k d) (map-append g ys (r ∷ [])) ∙ get_or_append_left (map g ys) _ d k (omega (arith, h, length-map ys g)))
+
+-- one more, which the next key names
+pub taken_more : {f s : ℕ} (xs : List (Rule f s)) (ks : List ℕ) (ys zs : List (Rule f s)) (n : ℕ) (r : Rule f s)
+    → AreTaken xs ks ys n → slice_index ks n % 2 ^ 26 < length xs → r ≡ get_or xs (slice_index ks n % 2 ^ 26) r
+    → zs ≡ ys ++ (r ∷ []) → AreTaken xs ks zs (n + 1)
+taken_more {f} {s} xs ks ys zs n r taken named is more =
+    let all : length zs ≡ n + 1 = omega (arith, ap length more, length-append ys (r ∷ []), taken.all) in
+    let last : n < length zs = omega (arith, all) in
+    let here : r ≡ get_or zs n r = sym (ap (λ l. get_or l n r) more ∙ get_or_at ys r [] r n taken.all) in
+    record {
+      all = all;
+      prefixes = below_more _ n
+          (λ k h. read_before (λ (x : Rule f s). x.prefix) (record { bits = 0; len = 0 }) ys zs r k more (omega (arith, h, taken.all)) ∙ taken.prefixes k h)
+          (prefix_read zs n r last here ∙ sym (prefix_read xs _ r named is));
+      hops = below_more _ n
+          (λ k h. read_before (λ (x : Rule f s). x.hop) 0 ys zs r k more (omega (arith, h, taken.all)) ∙ taken.hops k h)
+          (hop_read zs n r last here ∙ sym (hop_read xs _ r named is));
+    }
 
 -- of the first m rules none has this prefix
 record HasNone {f s : ℕ} (rs : List (Rule f s)) (p : Network) (m : ℕ) : Type 0 where
@@ -133,7 +167,7 @@ module _ {f s : ℕ} (xs : List (Rule f s)) (keys ks : List ℕ) (few : length x
       (k, (omega (arith, within, count_keys)), omega (arith, is, h, few))
 
 module _ {f s : ℕ} (xs : List (Rule f s)) (keys ks : List ℕ) (ys : List (Rule f s)) (few : length xs ≤ 2 ^ 26)
-    (are : AreKeys xs keys) (moved : IsPermutation keys ks) (rising : IsNonDecreasing ks) (taken : AreTaken xs ks ys) where
+    (are : AreKeys xs keys) (moved : IsPermutation keys ks) (rising : IsNonDecreasing ks) (taken : AreTaken xs ks ys (length ks)) where
   abbrev pub at : ℕ → ℕ
   at k = slice_index ks k % 2 ^ 26
 

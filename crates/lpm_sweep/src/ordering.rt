@@ -1,7 +1,7 @@
 //! The order of rules by their prefixes.
 
-ghost use Rattle.std.specs.Prelude.{◌≡◌, ℕ, ◌%◌, ◌^◌, ◌<◌, ◌≤◌, IfOk, length, slice_index};
-ghost use Rattle.lpm_sweep.specs.Keys.{AreKeys, AreTaken};
+ghost use Rattle.std.specs.Prelude.{◌≡◌, ◌^◌, ◌≤◌, IfOk, length};
+ghost use Rattle.lpm_sweep.specs.Keys.{AreKeys};
 ghost use Rattle.lpm_rules.specs.RuleMap.{AreInOrder, rules_of};
 ghost use Rattle.lpm_sweep.specs.Listed.{AreReordered};
 
@@ -28,24 +28,6 @@ fn keys_of<const FIRST: u32, const SECOND: u32>(
     Ok(keys)
 }
 
-/// The rules in the order of these keys.
-fn rules_by_keys<const FIRST: u32, const SECOND: u32>(
-    alloc: Global,
-    rules: &[Rule<FIRST, SECOND>],
-    keys: &[u64],
-) -> Result<Vec<Rule<FIRST, SECOND>>, AllocError>
-    requires { (k : ℕ) → k < length keys.now
-        → slice_index keys.now k % 2 ^ 26 < length rules.now }
-    ensures { IfOk result (λ v. AreTaken rules.now keys.now v.items) }
-{
-    let mut sorted = Vec::with_capacity(alloc, keys.len())?;
-    for index in 0..keys.len() {
-        let rule = rules[(keys[index] % MOST_SORTED as u64) as usize];
-        sorted.push(rule)?;
-    }
-    Ok(sorted)
-}
-
 /// A copy of the rules in the order of their prefixes: by the bits, and of those with the same bits
 /// by the length. Those of one prefix keep their order, so the last rule of a prefix is still its
 /// last.
@@ -62,6 +44,9 @@ pub fn in_order<const FIRST: u32, const SECOND: u32>(
 {
     let mut keys = keys_of(alloc, rules)?;
     keys.sort_unstable();
-    let sorted = rules_by_keys(alloc, rules, keys.as_slice())?;
+    let mut sorted = Vec::with_capacity(alloc, keys.len())?;
+    for key in &keys {
+        sorted.push(rules[(*key % MOST_SORTED as u64) as usize])?;
+    }
     Ok(sorted)
 }
