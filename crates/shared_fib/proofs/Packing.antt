@@ -2,11 +2,10 @@
 use Rattle.std.proofs.Common.{◌≡◌, ℕ, zero, suc, ◌+◌, ◌*◌, ◌/◌, ◌%◌, ◌^◌, List, [], ◌∷◌, ◌++◌, map, length, take, drop, slice_index, refl, ap, sym, ◌∙◌, arith, append_assoc, ◌≢◌, ◌-◌, ◌<◌, ◌≤◌, inl, inr, replicate, slice_set, subst}
 use Rattle.std.specs.List.{range_with_len}
 use Rattle.std.specs.Simd.{first_chunks}
-use Rattle.std.proofs.lemmas.List.{get_or-take, get_or-drop, get_or_past, ext_get_or, get_or-set_same, get_or-set_other, length-set, get_or_append_left, get_or-append_right, get_or-replicate, length-append, length-drop, length-replicate, append-nil, take_all, replicate-append-replicate}
+use Rattle.std.proofs.lemmas.List.{get_or-take, get_or-drop, get_or_past, ext_get_or, get_or-set_same, get_or-set_other, length-set, get_or_append_left, get_or-append_right, get_or-replicate, length-append, length-drop, length-replicate, append-nil, take_all}
 use Rattle.std.proofs.lemmas.List.FromFn.{map-range_with_len_more, length-map-range_with_len, get_or-map-range_with_len}
 use Rattle.shared_words.specs.Layout.{pair_at, packed_words, pairs, half, first_at, sequence_at}
 use Rattle.std.proofs.lemmas.Bool.{cases_eq, cases_lt}
-use Rattle.lpm_sweep.specs.Swept.{Fills}
 use Rattle.shared_words.proofs.Laying.{half_even, half_odd, low_half, high_half, even_or_odd, packed_at, packed_length}
 use Rattle.shared_fib.specs.Pairs.{ArePairs, unpacked_pairs}
 
@@ -261,25 +260,6 @@ module _ (n w : ℕ) (ws zs xs : List ℕ) (are : ArePairs n ws) (put : unpacked
         ap (unpacked_pairs (n + 2 * m)) made ∙ twos_put n m w x ws are even_count small twice
             ∙ ap (λ (l : List ℕ). l ++ replicate (2 * m) w) put,
       )
-
--- words that were put last twice
-pub put_twice : (xs ys zs : List ℕ) (w a b : ℕ) → ys ≡ xs ++ replicate a w → zs ≡ ys ++ replicate b w
-    → zs ≡ xs ++ replicate (a + b) w
-put_twice xs ys zs w a b first second =
-    second ∙ ap (λ (l : List ℕ). l ++ replicate b w) first ∙ append_assoc xs (replicate a w) (replicate b w)
-    ∙ ap (λ (l : List ℕ). xs ++ l) (replicate-append-replicate a b w)
-
-pub put_length : (xs ys : List ℕ) (w m : ℕ) → ys ≡ xs ++ replicate m w → length ys ≡ length xs + m
-put_length xs ys w m is = ap length is ∙ omega (arith, length-append xs (replicate m w), length-replicate {A = ℕ} m w)
-
-pub fills_by : (xs ys : List ℕ) (w m : ℕ) → ys ≡ xs ++ replicate m w → Fills xs ys (λ _. w)
-fills_by xs ys w m is = subst (λ (zs : List ℕ). Fills xs zs (λ _. w)) (sym is) (record {
-  more = omega (arith, length-append xs (replicate m w));
-  kept = λ k lt. get_or_append_left xs (replicate m w) 0 k lt;
-  filled = λ k from to. get_or-append_right xs (replicate m w) (length xs) k 0 refl from
-      ∙ get_or-replicate m (k - length xs) w 0
-      (omega (arith, from, to, length-append xs (replicate m w), length-replicate {A = ℕ} m w));
-})
 
 -- ---- the shared words
 
