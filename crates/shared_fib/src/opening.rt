@@ -6,42 +6,19 @@ ghost use Rattle.lpm_bits.specs.Widths.{IsShape};
 ghost use Rattle.lpm_limits.specs.Limits.{IsConfig};
 ghost use Rattle.fib_model.specs.Counting.{by_counters};
 ghost use Rattle.fib.specs.Fib.{IsSound};
-ghost use Rattle.lpm_trace.specs.States.{IsSettled};
-ghost use Rattle.shared_words.specs.Layout.{initial_state_of};
-ghost use Rattle.shared_words.specs.Rule.{writer_view};
-ghost use Rattle.shared_words.specs.Seats.{IsOf};
-ghost use Rattle.shared_fib.specs.Initial.{ArePacked, initial_data_by};
+ghost use Rattle.shared_fib.specs.Initial.{initial_data_by};
 ghost use Rattle.lpm_writer.specs.Resting.{blank_state};
 ghost use Rattle.shared_fib.specs.Loading.{IsLoaded};
 ghost use Rattle.shared_fib.specs.Passes.{IsFullBench};
 ghost use Rattle.shared_fib.specs.Running.{initial_data_of, initial_writer, initial_state};
 
 use crate::pack::pack_all;
-use crate::table::Words;
 use crate::{Bench, InitialTable, SharedTable, Writer};
 use defer_queue::DeferQueue;
 use fib::Fib;
 use lpm_limits::Config;
 use lpm_writer::{ControlState, GroupPool, OpenError, PlainMemory};
-use shared_words::WriterSeat;
 use std::alloc::{AllocError, Global};
-
-/// The words of a table that goes on from this one, and the seat of its writer.
-fn open_words<const FIRST: u32, const SECOND: u32>(
-    alloc: Global,
-    initial: &InitialTable<FIRST, SECOND>,
-) -> Result<(Words<FIRST, SECOND>, WriterSeat), AllocError>
-    requires shape { IsShape FIRST SECOND }
-    requires packed { ArePacked (initial_data_of FIRST SECOND initial.now)
-        initial.now.words.items initial.now.layout }
-    requires settled { IsSettled (initial_state_of (initial_data_of FIRST SECOND initial.now)) }
-    ensures initial { IfOk result (λ r. r.0.initial ≡ initial_data_of FIRST SECOND initial.now) }
-    ensures own { IfOk result (λ r. IsOf r.0 r.1.table r.1.view) }
-    ensures view { IfOk result
-        (λ r. r.1.view ≡ writer_view (initial_data_of FIRST SECOND initial.now)) }
-{
-    shared_words::open(alloc, initial.words.as_slice(), initial.layout, initial)
-}
 
 /// The limits, the queue of the groups that wait, and what a running table is opened with. The words of one
 /// thread are given up as soon as they are packed.
@@ -125,7 +102,8 @@ pub(crate) fn go_on<const FIRST: u32, const SECOND: u32>(
     ensures workers { IfOk result (λ r. r.0.initial.workers ≡ initial.entry.layout.workers) }
     ensures bench { IfOk result (λ r. IsFullBench r.0 r.2) }
 {
-    let (words, mut seat) = open_words(alloc, &initial)?;
+    let list = initial.words.as_slice();
+    let (words, mut seat) = shared_words::open(alloc, list, initial.layout, &initial)?;
     let bench = Bench::full(alloc, &words, &mut seat)?;
     let control = first_control(config, queue, initial);
     Ok((SharedTable::new(words), Writer::new(control, seat), bench))

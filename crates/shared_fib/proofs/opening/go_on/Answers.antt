@@ -7,9 +7,6 @@ use Rattle.shared_fib.specs.Running.{Identity, initial_data_of, initial_writer}
 use Rattle.shared_fib.proofs.Begins.{ready, opens}
 use Rattle.shared_fib.proofs.opening.go_on.Goals as goal
 
-pub open_words-requires : goal.open_words-requires
-open_words-requires g c = (lit< tt, (c.requires.shape, (c.requires.packed, c.requires.settled)))
-
 pub new-requires : goal.new-requires
 new-requires g c =
     let words = c.in_ok-words.ensures in
