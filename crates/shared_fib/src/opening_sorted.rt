@@ -119,39 +119,6 @@ fn load_swept<const FIRST: u32, const SECOND: u32>(
     Ok((queue, initial))
 }
 
-/// The same, where the limits suffice for the rules and for their groups, and `None` exactly where they don't. The
-/// list is given up then.
-fn load_sorted<const FIRST: u32, const SECOND: u32>(
-    alloc: Global,
-    config: Config,
-    rules: Vec<Rule<FIRST, SECOND>>,
-) -> Result<Option<(DeferQueue, InitialTable<FIRST, SECOND>)>, AllocError>
-    requires shape { IsShape FIRST SECOND }
-    requires limits { IsConfig config }
-    requires sorted { AreInOrder rules.items }
-    ensures loaded { IfOk result (λ o. IfSome o (λ t. IsLoaded FIRST SECOND config t.0 t.1)) }
-    ensures rules { IfOk result (λ o. IfSome o (λ t. t.1.rules.rules ≡ rules_of rules.entry.items)) }
-    ensures token { IfOk result (λ o. IfSome o (λ t.
-        (initial_data_of FIRST SECOND t.1).token ≡ config.first_token)) }
-    ensures workers { IfOk result (λ o. IfSome o (λ t. t.1.layout.workers ≡ config.workers)) }
-    ensures rules_fit { IfOk result (λ o. IfSome o (λ _.
-        map.len (rules_of rules.entry.items) ≤ config.rules)) }
-    ensures groups_fit { IfOk result (λ o. IfSome o (λ _.
-        groups_in_use FIRST SECOND (rules_of rules.entry.items) ≤ config.groups)) }
-    ensures none { IfOk result (λ o. IsNone o
-        → (config.rules < map.len (rules_of rules.entry.items))
-        ⊎ (config.groups < groups_in_use FIRST SECOND (rules_of rules.entry.items))) }
-{
-    if count_rules(&rules) > config.rules {
-        return Ok(None);
-    }
-    let Some((words, blocks)) = sweep_words(alloc, config, &rules)? else {
-        return Ok(None);
-    };
-    let initial = load_swept(alloc, config, &rules, words, &blocks)?;
-    Ok(Some(initial))
-}
-
 /// A running table with the rules of a list, which is in the order of its prefixes (see `in_order` of
 /// `lpm_sweep`), its writer, and a pass for each worker, all offline. Of the rules of one prefix the last
 /// counts. The rules are there at once, as version 0: no change is counted.
@@ -187,8 +154,14 @@ pub fn open_sorted<const FIRST: u32, const SECOND: u32>(
         (λ error. (error ≡ OpenError.BadConfig) ↔ (¬ IsConfig config)) }
 {
     config.check()?;
-    let Some((queue, initial)) = load_sorted(alloc, config, rules)? else {
+    if count_rules(&rules) > config.rules {
+        return Ok(None);
+    }
+    let Some((words, blocks)) = sweep_words(alloc, config, &rules)? else {
         return Ok(None);
     };
+    let (queue, initial) = load_swept(alloc, config, &rules, words, &blocks)?;
+    drop(rules);
+    drop(blocks);
     Ok(Some(go_on(alloc, config, queue, initial)?))
 }
