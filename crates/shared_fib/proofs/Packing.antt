@@ -1,8 +1,8 @@
 -- The words of a table that is cut into twos, with the last of an odd number left over.
-use Rattle.std.proofs.Common.{◌≡◌, ℕ, zero, suc, ◌+◌, ◌*◌, ◌/◌, ◌%◌, ◌^◌, List, [], ◌∷◌, ◌++◌, map, length, take, drop, slice_index, refl, ap, sym, ◌∙◌, arith, append_assoc, ◌≢◌, ◌-◌, ◌<◌, ◌≤◌, inl, inr, replicate, slice_set, subst}
+use Rattle.std.proofs.Common.{◌≡◌, ℕ, zero, suc, ◌+◌, ◌*◌, ◌/◌, ◌%◌, ◌^◌, List, [], ◌∷◌, ◌++◌, map, length, get_or, take, drop, slice_index, refl, ap, sym, ◌∙◌, arith, append_assoc, ◌≢◌, ◌-◌, ◌<◌, ◌≤◌, inl, inr, replicate, slice_set, subst}
 use Rattle.std.specs.List.{range_with_len}
 use Rattle.std.specs.Simd.{first_chunks}
-use Rattle.std.proofs.lemmas.List.{get_or-take, get_or-drop, get_or_past, ext_get_or, get_or-set_same, get_or-set_other, length-set, get_or_append_left, get_or-append_right, get_or-replicate, length-append, length-drop, length-replicate, append-nil, take_all}
+use Rattle.std.proofs.lemmas.List.{get_or-take, get_or-drop, get_or_past, ext_get_or, get_or-set_same, get_or-set_other, length-set, get_or_append_left, get_or-append_right, get_or_read, get_or-replicate, length-append, length-drop, length-replicate, append-nil, take_all, replicate-append-replicate}
 use Rattle.std.proofs.lemmas.List.FromFn.{map-range_with_len_more, length-map-range_with_len, get_or-map-range_with_len}
 use Rattle.shared_words.specs.Layout.{pair_at, packed_words, pairs, half, first_at, sequence_at}
 use Rattle.std.proofs.lemmas.Bool.{cases_eq, cases_lt}
@@ -229,37 +229,112 @@ module _ (n w : ℕ) (ws : List ℕ) (are : ArePairs n ws) (even : n % 2 ≡ 0) 
 pub count_is : (n : ℕ) (ws xs : List ℕ) → unpacked_pairs n ws ≡ xs → n ≡ length xs
 count_is n ws xs is = sym (unpaired_length n ws) ∙ ap length is
 
-pub became : (zs old now : List ℕ) (w k m : ℕ) → zs ≡ old ++ replicate k w → old ≡ now → k ≡ m → zs ≡ now ++ replicate m w
-became zs old now w k m put is same = put ∙ (λ i. is i ++ replicate (same i) w)
+-- a list that had the table words xs has n, of which the new ones are w
+pub record HasGrown (xs : List ℕ) (w n : ℕ) (ws : List ℕ) : Type 0 where
+  pub paired : ArePairs n ws
+  pub listed : unpacked_pairs n ws ≡ xs ++ replicate (n - length xs) w
+  pub more : length xs ≤ n
 
-pub none_put : (xs : List ℕ) (w m : ℕ) → m ≡ 0 → xs ≡ xs ++ replicate m w
-none_put xs w m none = sym (append-nil xs) ∙ ap (λ (k : ℕ). xs ++ replicate k w) (sym none)
+-- an even number, up to this one
+pub record HasEven (xs : List ℕ) (w to n : ℕ) (ws : List ℕ) : Type 0 where
+  pub grown : HasGrown xs w n ws
+  pub even : n % 2 ≡ 0
+  pub within : n ≤ to
 
--- what a list of shared words, and the table words in it, become behind an even number of these: by one word, or by the
--- same word twice in each of m shared words
-module _ (n w : ℕ) (ws zs xs : List ℕ) (are : ArePairs n ws) (put : unpacked_pairs n ws ≡ xs) (even : length xs % 2 ≡ 0)
-    (small : w < 2 ^ 32) where
-  even_count : n % 2 ≡ 0
-  even_count = let same = count_is n ws xs put in omega (arith, same, even)
+-- all of them, or all but one
+pub record HasNearly (xs : List ℕ) (w to n : ℕ) (ws : List ℕ) : Type 0 where
+  pub evenly : HasEven xs w to n ws
+  pub near : to ≤ n + 1
 
-  pub one_more : (a : ℕ) → a ≡ w → zs ≡ ws ++ a ∷ []
-      → ArePairs (n + 1) zs × (unpacked_pairs (n + 1) zs ≡ xs ++ replicate 1 w)
-  one_more a same is =
-      let made : zs ≡ ws ++ replicate 1 w = is ∙ ap (λ (v : ℕ). ws ++ v ∷ []) same in (
-        subst (ArePairs (n + 1)) (sym made) (last_paired n w ws are even_count small),
-        ap (unpacked_pairs (n + 1)) made ∙ last_put n w ws are even_count small ∙ ap (λ (l : List ℕ). l ++ replicate 1 w) put,
-      )
+grows : (xs ws zs : List ℕ) (w n m : ℕ) → HasGrown xs w n ws → ArePairs (n + m) zs
+    → unpacked_pairs (n + m) zs ≡ unpacked_pairs n ws ++ replicate m w → HasGrown xs w (n + m) zs
+grows xs ws zs w n m was paired put = record {
+  paired = paired;
+  listed = put ∙ ap (λ (l : List ℕ). l ++ replicate m w) was.listed ∙ append_assoc xs (replicate (n - length xs) w) (replicate m w)
+      ∙ ap (λ (l : List ℕ). xs ++ l) (replicate-append-replicate (n - length xs) m w)
+      ∙ (let all : n - length xs + m ≡ n + m - length xs = omega (arith, was.more) in ap (λ (k : ℕ). xs ++ replicate k w) all);
+  more = omega (arith, was.more);
+}
 
-  pub twos_more : (m to k a b : ℕ) → a ≡ w → b ≡ w → zs ≡ take to ws ++ replicate k (a + b * 2 ^ 32) → length ws ≤ to → k ≡ m
-      → ArePairs (n + 2 * m) zs × (unpacked_pairs (n + 2 * m) zs ≡ xs ++ replicate (2 * m) w)
-  twos_more m to k a b low high is all many =
-      let x : ℕ = a + b * 2 ^ 32 in
-      let twice : x ≡ w + w * 2 ^ 32 = λ i. low i + high i * 2 ^ 32 in
-      let made : zs ≡ ws ++ replicate m x = is ∙ (λ i. take_all to ws all i ++ replicate (many i) x) in (
-        subst (ArePairs (n + 2 * m)) (sym made) (twos_paired n m w x ws are even_count small twice),
-        ap (unpacked_pairs (n + 2 * m)) made ∙ twos_put n m w x ws are even_count small twice
-            ∙ ap (λ (l : List ℕ). l ++ replicate (2 * m) w) put,
-      )
+-- before the first
+begins : (xs ws : List ℕ) (w n : ℕ) → ArePairs n ws → unpacked_pairs n ws ≡ xs → HasGrown xs w n ws
+begins xs ws w n are put =
+    let same = count_is n ws xs put in
+    let none : 0 ≡ n - length xs = omega (arith, same) in
+    record {
+      paired = are;
+      listed = put ∙ sym (append-nil xs) ∙ ap (λ (k : ℕ). xs ++ replicate k w) none;
+      more = omega (arith, same);
+    }
+
+pub evened : (xs ws : List ℕ) (w to n len low high : ℕ) → ArePairs n ws → unpacked_pairs n ws ≡ xs → length xs < to → w < 2 ^ 32
+    → n % 2 ≡ 1 → len ≡ length ws → low ≡ get_or ws (len - 1) low → high ≡ w
+    → HasEven xs w to (n + 1) (slice_set ws (len - 1) (low + high * 2 ^ 32))
+evened xs ws w to n len low high are put less small odd all value same =
+    let at : ℕ = len - 1 in
+    let x : ℕ = low + high * 2 ^ 32 in
+    let last : at ≡ length ws - 1 = omega (arith, all) in
+    let read : low ≡ slice_index ws at = get_or_read ws at low (omega (arith, last, are.all)) value 0 in
+    let is : x ≡ slice_index ws at + w * 2 ^ 32 = λ i. read i + same i * 2 ^ 32 in
+    let count = count_is n ws xs put in
+    record {
+      grown = grows xs ws (slice_set ws at x) w n 1 (begins xs ws w n are put) (high_paired n ws w at x are odd small last is)
+          (high_put n ws w at x are odd small last is ∙ ap (λ (k : ℕ). unpacked_pairs n ws ++ replicate k w) odd);
+      even = omega (arith, odd);
+      within = omega (arith, count, less);
+    }
+
+pub was_even : (xs ws : List ℕ) (w to n : ℕ) → ArePairs n ws → unpacked_pairs n ws ≡ xs → length xs < to → n % 2 ≢ 1
+    → HasEven xs w to n ws
+was_even xs ws w to n are put less not =
+    let same = count_is n ws xs put in
+    record {
+      grown = begins xs ws w n are put;
+      even = omega (arith, not);
+      within = omega (arith, same, less);
+    }
+
+pub by_twos : (xs ws zs : List ℕ) (w to n len k low high : ℕ) → HasEven xs w to n ws → w < 2 ^ 32 → low ≡ w → high ≡ w
+    → len ≡ length ws → k ≡ (to - n) / 2 → zs ≡ take (len + (to - n) / 2) ws ++ replicate k (low + high * 2 ^ 32)
+    → HasNearly xs w to (n + 2 * ((to - n) / 2)) zs
+by_twos xs ws zs w to n len k low high was small first second all many is =
+    let m : ℕ = (to - n) / 2 in
+    let x : ℕ = low + high * 2 ^ 32 in
+    let twice : x ≡ w + w * 2 ^ 32 = λ i. first i + second i * 2 ^ 32 in
+    let whole : take (len + m) ws ≡ ws = take_all (len + m) ws (omega (arith, all)) in
+    let made : zs ≡ ws ++ replicate m x = is ∙ (λ i. whole i ++ replicate (many i) x) in
+    let are = was.grown.paired in
+    let even = was.even in
+    record {
+      evenly = record {
+        grown = subst (HasGrown xs w (n + 2 * m)) (sym made)
+            (grows xs ws (ws ++ replicate m x) w n (2 * m) was.grown (twos_paired n m w x ws are even small twice)
+            (twos_put n m w x ws are even small twice));
+        even = omega (arith, even);
+        within = omega (arith, was.within);
+      };
+      near = omega (arith, was.within);
+    }
+
+pub no_twos : (xs ws : List ℕ) (w to n : ℕ) → HasEven xs w to n ws → (to - n) / 2 ≤ 0 → HasNearly xs w to n ws
+no_twos xs ws w to n was none = record { evenly = was; near = omega (arith, was.within, none) }
+
+pub by_one : (xs ws zs : List ℕ) (w to n a : ℕ) → HasNearly xs w to n ws → w < 2 ^ 32 → n < to → a ≡ w → zs ≡ ws ++ a ∷ []
+    → ArePairs (n + 1) zs × (unpacked_pairs (n + 1) zs ≡ xs ++ replicate (to - length xs) w)
+by_one xs ws zs w to n a was small less same is =
+    let made : zs ≡ ws ++ replicate 1 w = is ∙ ap (λ (v : ℕ). ws ++ v ∷ []) same in
+    let are = was.evenly.grown.paired in
+    let even = was.evenly.even in
+    let now : HasGrown xs w (n + 1) zs = subst (HasGrown xs w (n + 1)) (sym made)
+    (grows xs ws (ws ++ replicate 1 w) w n 1 was.evenly.grown (last_paired n w ws are even small) (last_put n w ws are even small)) in
+    let all : n + 1 ≡ to = omega (arith, was.near, less) in
+    (now.paired, now.listed ∙ ap (λ (k : ℕ). xs ++ replicate (k - length xs) w) all)
+
+pub by_none : (xs ws : List ℕ) (w to n : ℕ) → HasNearly xs w to n ws → to ≤ n
+    → unpacked_pairs n ws ≡ xs ++ replicate (to - length xs) w
+by_none xs ws w to n was all =
+    let same : n ≡ to = omega (arith, was.evenly.within, all) in
+    was.evenly.grown.listed ∙ ap (λ (k : ℕ). xs ++ replicate (k - length xs) w) same
 
 -- ---- the shared words
 

@@ -15,10 +15,7 @@ impl WordList for Pairs {
     #[inline]
     fn fill(&mut self, to: usize, word: u32) -> Result<(), AllocError> {
         if self.count() < to {
-            self.even_out(word);
-            let pairs = (to - self.count()) / 2;
-            self.put_pairs(pairs, word)?;
-            self.put_last(to, word)?;
+            self.grow(to, word)?;
         }
         Ok(())
     }

@@ -38,40 +38,23 @@ impl Pairs {
         Ok(Pairs { words, count: 0 })
     }
 
-    /// Puts a table word last where their number is odd, into the half that is left over behind them.
-    #[inline]
-    pub(crate) fn even_out(&mut self, word: u32)
-        ensures { self.new ≡ self.old ++ replicate (length self.old % 2) word }
+    /// Puts a table word last until the list has so many, which are more than it had: first into the half that is left
+    /// over behind an odd number of them, then two times into each shared word, and alone where one is missing at last.
+    pub(crate) fn grow(&mut self, to: usize, word: u32) -> Result<(), AllocError>
+        requires { length self.old < to }
+        ensures { OnOk result (self.new ≡ self.old ++ replicate (to - length self.old) word) }
     {
         if self.count % 2 == 1 {
             let last = self.words.len() - 1;
             self.words[last] += u64::from(word) * (1 << 32);
             self.count += 1;
         }
-    }
-
-    /// Puts a table word last so many times two times, behind an even number of them.
-    #[inline]
-    pub(crate) fn put_pairs(&mut self, pairs: usize, word: u32) -> Result<(), AllocError>
-        requires even { length self.old % 2 ≡ 0 }
-        requires small { length self.old + 2 * pairs < 2 ^ 64 }
-        ensures { OnOk result (self.new ≡ self.old ++ replicate (2 * pairs) word) }
-    {
+        let pairs = (to - self.count) / 2;
         if pairs > 0 {
             let pair = u64::from(word) + u64::from(word) * (1 << 32);
             self.words.resize(self.words.len() + pairs, pair)?;
             self.count += 2 * pairs;
         }
-        Ok(())
-    }
-
-    /// Puts a table word last where so many are one more than an even number that the list has.
-    #[inline]
-    pub(crate) fn put_last(&mut self, to: usize, word: u32) -> Result<(), AllocError>
-        requires even { length self.old % 2 ≡ 0 }
-        requires one { to ≤ length self.old + 1 }
-        ensures { OnOk result (self.new ≡ self.old ++ replicate (to - length self.old) word) }
-    {
         if self.count < to {
             self.words.push(u64::from(word))?;
             self.count += 1;
