@@ -33,10 +33,9 @@ use Rattle.lpm_writer.specs.Traced.{WithSteps, by_writer}
 use Rattle.lpm_writer.proofs.StepsAlone.{adds_alone, deletes_alone, flushes_alone, frees_alone}
 use Rattle.shared_words.specs.Layout.{InitialData, initial_state_of}
 use Rattle.shared_words.specs.Seats.{AreChecked, AreLawful}
-use Rattle.shared_fib.specs.Leading.{Leads, writer_by}
 use Rattle.shared_fib.specs.Lent.{LentSeat, SharedDid, state_of_lent}
-use Rattle.shared_fib.specs.Running.{Identity, IsSoundWriter, WriterState, by_steps, steps_of}
-use Rattle.shared_fib.specs.Freeing.{TakesLeast}
+use Rattle.shared_fib.specs.Running.{Identity, IsSoundWriter, WriterState, by_steps, state_by, steps_of}
+use Rattle.shared_fib.specs.Freeing.{FreesChecked, TakesLeast}
 use Rattle.shared_fib.proofs.Checked.{frees_checked}
 use Rattle.shared_fib.proofs.Freed.{Leaves, adds_leave, deletes_leave, flushes_leave, reclaims_leave}
 use Rattle.shared_fib.proofs.Seated.{Kept, kept, unseeing, does_in, stays, rests_after}
@@ -192,8 +191,26 @@ pub synchronized_later : {E : Type 0} (workers start : ℕ) (v w : View) (r : Re
 synchronized_later workers start v w (Ok done) same h = synchronizes_later workers start v.writer_steps w.writer_steps h
 synchronized_later workers start v w (Err none) same h = later_same v.writer_steps w.writer_steps (ap (λ (x : View). x.writer_steps) same)
 
+-- the writer at this table with this control state, by what its seat knows
+abbrev pub writer_by : {f s : ℕ} → TableId → ControlState f s → View → WriterState
+writer_by table control v = record {
+  identity = record { words = table; initial = v.initial };
+  config = control.config;
+  table = state_by control v;
+}
+
+-- A command leads from the writer x to y: it has this outcome, each of the groups that it frees was checked, its steps
+-- come after all earlier ones, and table and limits stay.
+pub record Leads (Outcome : InitialData → WriterState → WriterState → Type 0) (freed : WriterState → List ℕ)
+    (o : InitialData) (x y : WriterState) : Type 0 where
+  pub outcome : Outcome o x y
+  pub checked : FreesChecked o x.table y.table (freed x)
+  pub later : IsLater (steps_of x) (steps_of y)
+  pub own : y.identity ≡ x.identity
+  pub config : y.config ≡ x.config
+
 -- the same of the writer that callers see, and of the table that they name
-pub told_to : (Outcome : InitialData → WriterState → WriterState → Type 0) (freed : WriterState → List ℕ)
+told_to : (Outcome : InitialData → WriterState → WriterState → Type 0) (freed : WriterState → List ℕ)
     (w x y : WriterState) (id : Identity) → w ≡ x → x.identity ≡ id → Leads Outcome freed w.identity.initial w y
     → Leads Outcome freed id.initial x y
 told_to Outcome freed w x y id is own led =
@@ -207,9 +224,10 @@ module _ (f s : ℕ) (old new : ControlState f s) (v : View) (m z : LentSeat) (f
   abbrev c : InitialState
   c = initial_state_of v.initial
 
-  -- the seat is at the table t
+  -- the seat is at the table t, callers see the writer x, and they name the table id
   module _ (t : TableId) (at : m.table ≡ t) (knew : m.view ≡ v) (limits : new.config ≡ old.config)
-      (lawful : AreLawful z.view.initial z.view.writer_steps) (low : (state_of_lent z).token ≤ 2 ^ 62) where
+      (lawful : AreLawful z.view.initial z.view.writer_steps) (low : (state_of_lent z).token ≤ 2 ^ 62)
+      (x : WriterState) (id : Identity) (seen : writer_by t old v ≡ x) (own : x.identity ≡ id) where
     abbrev before : WriterState
     before = writer_by t old v
 
@@ -218,7 +236,7 @@ module _ (f s : ℕ) (old new : ControlState f s) (v : View) (m z : LentSeat) (f
     pub record Came (K : InitialData → WriterState → WriterState → Type 0) (freed : WriterState → List ℕ) : Type 0 where
       pub name : z.name ≡ m.name
       pub at_seat : (t' : TableId) (w : View) → z.table ≡ t' → z.view ≡ w
-          → IsSoundWriter f s new w × Leads K freed v.initial before (writer_by t' new w)
+          → IsSoundWriter f s new w × Leads K freed id.initial x (writer_by t' new w)
 
     abbrev before_traced : State (WithSteps LentSeat)
     before_traced = state_of old.rules.rules (m, v.writer_steps) old.pool old.versions
@@ -270,7 +288,8 @@ module _ (f s : ℕ) (old new : ControlState f s) (v : View) (m z : LentSeat) (f
             let now = subst (λ (w : WriterState). AreChecked w.identity.initial (steps_of w) → Leads K freed v.initial before w)
             (then_is stay) by_then lawful.checked in (
               subst (IsSoundWriter f s new) knows ready,
-              subst (Leads K freed v.initial before) (λ i. writer_by (there i) new (knows i)) now,
+              told_to K freed before x (writer_by t' new w) id seen own
+                  (subst (Leads K freed v.initial before) (λ i. writer_by (there i) new (knows i)) now),
             );
       }
 

@@ -7,7 +7,6 @@
 
 mod bench;
 mod bursts;
-mod commands;
 mod filling;
 mod grace;
 mod initial_table;

@@ -6,13 +6,12 @@ ghost use Rattle.shared_words.specs.Rule.{IsLater};
 ghost use Rattle.shared_fib.specs.Freeing.{FreesChecked, TakesLeast};
 ghost use Rattle.shared_fib.specs.Running.{IsSoundWriter, by_steps, state_by, steps_of};
 
-use crate::SharedTable;
-use crate::commands::{add_by, delete_by, flush_by, reclaim_by};
+use crate::{SharedMemory, SharedTable};
 use defer_queue::Reclaimed;
 use lpm_bits::{Hop, Prefix};
 use lpm_limits::Refusal;
 use lpm_rules::Put;
-use lpm_writer::ControlState;
+use lpm_writer::{ControlState, add_rule, delete_rule, flush_rules, reclaim_groups};
 use shared_words::WriterSeat;
 use std::marker::Model;
 
@@ -60,6 +59,9 @@ impl<const FIRST: u32, const SECOND: u32> Writer<FIRST, SECOND> {
         Writer { control, seat }
     }
 
+    // Each command lends the seat to a memory. The last look at the seat is for the proof: only by a use after
+    // the loan is it known what came back.
+
     /// Adds a rule, or gives the prefix's rule another next hop. A rule that is there already stays, and is
     /// `Unchanged`, whatever else holds.
     ///
@@ -86,7 +88,12 @@ impl<const FIRST: u32, const SECOND: u32> Writer<FIRST, SECOND> {
         ensures own { self.new.identity ≡ self.old.identity }
         ensures config { self.new.config ≡ self.old.config }
     {
-        add_by(&mut self.control, &mut self.seat, &table.words, prefix, hop)
+        let seat = &mut self.seat;
+        let mut memory = SharedMemory::new(&table.words, seat);
+        let added = add_rule(&mut self.control, &mut memory, prefix, hop);
+        memory.done();
+        let _ = &*seat;
+        added
     }
 
     /// Deletes the rule of this prefix, and returns its next hop. Its addresses go to the longest rule that
@@ -108,7 +115,12 @@ impl<const FIRST: u32, const SECOND: u32> Writer<FIRST, SECOND> {
         ensures own { self.new.identity ≡ self.old.identity }
         ensures config { self.new.config ≡ self.old.config }
     {
-        delete_by(&mut self.control, &mut self.seat, &table.words, prefix)
+        let seat = &mut self.seat;
+        let mut memory = SharedMemory::new(&table.words, seat);
+        let deleted = delete_rule(&mut self.control, &mut memory, prefix);
+        memory.done();
+        let _ = &*seat;
+        deleted
     }
 
     /// Deletes all rules, as one version, and returns how many there were. With none nothing changes, and
@@ -124,7 +136,12 @@ impl<const FIRST: u32, const SECOND: u32> Writer<FIRST, SECOND> {
         ensures own { self.new.identity ≡ self.old.identity }
         ensures config { self.new.config ≡ self.old.config }
     {
-        flush_by(&mut self.control, &mut self.seat, &table.words)
+        let seat = &mut self.seat;
+        let mut memory = SharedMemory::new(&table.words, seat);
+        let flushed = flush_rules(&mut self.control, &mut memory);
+        memory.done();
+        let _ = &*seat;
+        flushed
     }
 
     /// Frees groups that wait in limbo, from the oldest on: at most `max`, up to the first that a worker
@@ -139,6 +156,11 @@ impl<const FIRST: u32, const SECOND: u32> Writer<FIRST, SECOND> {
         ensures own { self.new.identity ≡ self.old.identity }
         ensures config { self.new.config ≡ self.old.config }
     {
-        reclaim_by(&mut self.control, &mut self.seat, &table.words, max)
+        let seat = &mut self.seat;
+        let mut memory = SharedMemory::new(&table.words, seat);
+        let reclaimed = reclaim_groups(&mut self.control, &mut memory, max);
+        memory.done();
+        let _ = &*seat;
+        reclaimed
     }
 }

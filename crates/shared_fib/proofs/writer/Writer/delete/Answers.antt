@@ -1,9 +1,30 @@
-use Rattle.shared_fib.specs.Leading.{writer_by}
-use Rattle.shared_fib.proofs.Leading.{told_to}
+use Rattle.std.proofs.Common.{rules}
+use Rattle.shared_fib.proofs.Leading.{deleted}
 use Rattle.shared_fib.proofs.writer.Writer.delete.Goals as goal
+
+pub invariant_of-self : goal.invariant_of-self
+invariant_of-self g c =
+    let ran = c.delete_rule-deleted in
+    let m = c.new-memory in
+    let some = deleted g.row.FIRST g.row.SECOND c.self.inside.control ran.new.control c.self.inside.seat.view m.result ran.new.memory
+    m.ensures.did c.self.invariant.rests c.self.inside.seat.table m.ensures.table m.ensures.view ran.ensures.config
+    c.done.ensures.lawful c.done.ensures.token c.args.self.now c.args.table.now c.self.view_is c.requires.own
+    c.args.prefix.now ran.result ran.ensures.deletes in
+    let name = some.1.name in
+    let seat = some.1.at_seat c.seat-2-1.given.0.table c.seat-2-1.given.0.view (search (rules, c.seat-2-1, name, m.ensures, c.done.ensures))
+    (search (rules, c.seat-2-1, name, m.ensures, c.done.ensures)) in
+    seat.0
 
 pub returns : goal.returns
 returns g c =
-    let led = told_to _ _ (writer_by c.self.inside.seat.table c.self.inside.control c.self.inside.seat.view) c.args.self.now _
-    c.args.table.now c.self.view_is c.requires.own c.delete_by.ensures.leads.1 in
-    record { deletes = led.outcome; checked = (c.delete_by.ensures.leads.0, led.checked); later = led.later; own = led.own; config = led.config }
+    let ran = c.delete_rule-deleted in
+    let m = c.new-memory in
+    let some = deleted g.row.FIRST g.row.SECOND c.self.inside.control ran.new.control c.self.inside.seat.view m.result ran.new.memory
+    m.ensures.did c.self.invariant.rests c.self.inside.seat.table m.ensures.table m.ensures.view ran.ensures.config
+    c.done.ensures.lawful c.done.ensures.token c.args.self.now c.args.table.now c.self.view_is c.requires.own
+    c.args.prefix.now ran.result ran.ensures.deletes in
+    let name = some.1.name in
+    let seat = some.1.at_seat c.seat-2-1.given.0.table c.seat-2-1.given.0.view (search (rules, c.seat-2-1, name, m.ensures, c.done.ensures))
+    (search (rules, c.seat-2-1, name, m.ensures, c.done.ensures)) in
+    let led = seat.1 in
+    record { deletes = led.outcome; checked = (some.0, led.checked); later = led.later; own = led.own; config = led.config }
