@@ -22,7 +22,7 @@ use Rattle.shared_words.specs.declared.view.View.{View}
 use Rattle.shared_words.specs.Layout.{initial_state_of}
 use Rattle.shared_fib.specs.Lent.{LentSeat, SharedDid, SharedDoes, state_of_lent}
 use Rattle.shared_fib.specs.LentLaws.{shared_shows}
-use Rattle.shared_fib.specs.Leading.{PassesAtLast}
+use Rattle.shared_fib.specs.Grace.{PassesAtLast}
 use Rattle.shared_fib.proofs.Seated.{Kept, kept, does_in, stays}
 
 -- the newest token was started last in m, and each check of it since was stopped

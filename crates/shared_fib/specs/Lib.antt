@@ -9,4 +9,4 @@ pub mod LentLaws
 pub mod Pairs
 pub mod Bursts
 pub mod Passes
-pub mod Leading
+pub mod Grace

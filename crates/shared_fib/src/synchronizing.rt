@@ -9,7 +9,7 @@ ghost use Rattle.shared_words.specs.Layout.{initial_state_of};
 ghost use Rattle.shared_words.specs.Rule.{IsLater};
 ghost use Rattle.shared_words.specs.Seats.{IsOf};
 ghost use Rattle.shared_fib.specs.Lent.{SharedDid, passed_by, token_by};
-ghost use Rattle.shared_fib.specs.Leading.{PassesAtLast};
+ghost use Rattle.shared_fib.specs.Grace.{PassesAtLast};
 ghost use Rattle.shared_fib.specs.Running.{IsSoundWriter, OnlySees, passed_of, steps_of, token_of};
 
 use crate::table::Words;
