@@ -158,6 +158,17 @@ pub kept_desks : (id : Identity) (old new : List Desk) → All (IsDeskOf id) old
 kept_desks id old new desks kept k d lt =
     kept_desk id (get_or old k d) (get_or new k d) (desks k d lt) (kept k d lt)
 
+-- desks that keep their passes are still desks of the table
+pub desks_stay : (id : Identity) (old new : List Desk) → length new ≡ length old → All (IsDeskOf id) old
+    → EachDesk (λ x y. y.pass ≡ x.pass) old new → All (IsDeskOf id) new
+desks_stay id old new len desks kept k d lt =
+    let was = desks k d (omega (arith, lt, len)) in
+    let same = kept k d (omega (arith, lt, len)) in
+    record {
+      table = ap (λ (p : PassState). p.table) same ∙ was.table;
+      offline = ap (λ (p : PassState). p.online) same ∙ was.offline;
+    }
+
 -- a desk that stays the same, and then again
 same_twice : (a b c : Desk) → IsSameDesk a b → IsSameDesk b c → IsSameDesk a c
 same_twice a b c h k = record {

@@ -1,8 +1,7 @@
 //! Many addresses, answered by a running table that its writer lets rest meanwhile.
 
-ghost use Rattle.std.specs.Prelude.{◌≡◌, ◌+◌, ◌^◌, ℕ, ◌<◌, ◌≤◌, ◌↔◌, ◌++◌, true, All, IfOk, OnOk, IsErrOf};
-ghost use Rattle.std.specs.Prelude.{length, map, slice_index_or, vec_len, vec_capacity};
-ghost use Rattle.std.specs.List.{flat_map};
+ghost use Rattle.std.specs.Prelude.{◌≡◌, ◌+◌, ◌^◌, ℕ, ◌<◌, ◌↔◌, true, All, IfOk, OnOk, IsErrOf};
+ghost use Rattle.std.specs.Prelude.{length, map, slice_index_or, vec_len};
 ghost use Rattle.lpm_rules.specs.Longest.{AreLongestHops};
 ghost use Rattle.shared_words.specs.Rule.{IsLater};
 ghost use Rattle.bulk.specs.Pieces.{piece_of};
@@ -16,14 +15,6 @@ use std::alloc::{AllocError, Global};
 use std::thread;
 use std::thread::Threads;
 
-/// Makes room for so many hops.
-fn make_room_at(desk: &mut Desk, count: usize) -> Result<(), AllocError>
-    ensures pass { desk.new.pass ≡ desk.old.pass }
-    ensures room { OnOk result (vec_len desk.new.hops ≡ count) }
-{
-    desk.hops.resize(count, None)
-}
-
 /// Makes room at each desk for the hops of its piece.
 fn make_room(desks: &mut [Desk], addrs: &[u32]) -> Result<(), AllocError>
     ensures len { length desks.new ≡ length desks.old }
@@ -33,25 +24,9 @@ fn make_room(desks: &mut [Desk], addrs: &[u32]) -> Result<(), AllocError>
     let workers = desks.len();
     for number in 0..workers {
         let count = piece_at(addrs, workers, number).len();
-        make_room_at(&mut desks[number], count)?;
+        desks[number].hops.resize(count, None)?;
     }
     Ok(())
-}
-
-/// The desk's pass meets the writer.
-fn meet_desk<const FIRST: u32, const SECOND: u32>(
-    table: &SharedTable<FIRST, SECOND>,
-    writer: &mut Writer<FIRST, SECOND>,
-    desk: &mut Desk,
-)
-    requires own { writer.old.identity ≡ table.now }
-    requires desk { IsDeskOf table.now desk.old }
-    ensures met { HasMet writer.old desk.old desk.new }
-    ensures same { writer.new ≡ writer.old }
-{
-    writer.at_rest();
-    desk.pass.meet(table, writer);
-    desk.pass.history();
 }
 
 /// Each desk's pass meets the writer.
@@ -66,8 +41,11 @@ fn meet_all<const FIRST: u32, const SECOND: u32>(
     ensures met { EachDesk (HasMet writer.old) desks.old desks.new }
     ensures same { writer.new ≡ writer.old }
 {
+    writer.at_rest();
     for number in 0..desks.len() {
-        meet_desk(table, writer, &mut desks[number]);
+        let pass = &mut desks[number].pass;
+        pass.meet(table, writer);
+        pass.history();
     }
 }
 
@@ -127,47 +105,6 @@ fn answer_all<R: Threads + Sync, G: Gate, const FIRST: u32, const SECOND: u32>(
     );
 }
 
-/// Answers the addresses of each piece between two meetings of the writer with each desk's pass. By the first
-/// one, a lookup is made after all that the writer has done; by the second one, it has done nothing since.
-fn answer_at_rest<R: Threads + Sync, G: Gate, const FIRST: u32, const SECOND: u32>(
-    rt: &R,
-    table: &SharedTable<FIRST, SECOND>,
-    writer: &mut Writer<FIRST, SECOND>,
-    desks: &mut [Desk],
-    addrs: &[u32],
-    gate: &G,
-)
-    requires own { writer.old.identity ≡ table.now }
-    requires some { 0 < length desks.old }
-    requires desks { All (IsDeskOf table.now) desks.old }
-    requires room { HaveRoom addrs.now desks.old }
-    requires addrs { All (λ a. a < 2 ^ (FIRST + SECOND)) addrs.now }
-    ensures answers { AreLongestHops (FIRST + SECOND) writer.old.table.rules addrs.now
-        (flat_map (λ d. d.hops.items) desks.new) }
-    ensures same { writer.new ≡ writer.old }
-    ensures desks { All (IsDeskOf table.now) desks.new }
-    ensures numbers { map worker_of desks.new ≡ map worker_of desks.old }
-    ensures passes { EachDesk IsSameDesk desks.old desks.new }
-{
-    table.has_widths();
-    meet_all(table, writer, desks);
-    answer_all(rt, table, gate, addrs, desks);
-    meet_all(table, writer, desks);
-}
-
-/// Appends the hops of the desks, one desk after another, where there is room for all.
-fn join_desks(desks: &[Desk], joined: &mut Vec<Option<Hop>>)
-    requires { vec_len joined.old + length (flat_map (λ d. d.hops.items) desks.now)
-        ≤ vec_capacity joined.old }
-    ensures { joined.new.items ≡ joined.old.items ++ flat_map (λ d. d.hops.items) desks.now }
-{
-    for desk in desks {
-        if joined.extend_from_slice(&desk.hops).is_err() {
-            unreachable!();
-        }
-    }
-}
-
 /// The next hop of each address, in the order of the addresses, by the rules that the writer has. Each desk
 /// answers a piece, on its own thread.
 ///
@@ -199,7 +136,16 @@ pub fn bulk<R: Threads + Sync, G: Gate, const FIRST: u32, const SECOND: u32>(
     }
     make_room(desks, addrs)?;
     let mut joined = Vec::with_capacity(alloc, addrs.len())?;
-    answer_at_rest(rt, table, writer, desks, addrs, gate);
-    join_desks(desks, &mut joined);
+    table.has_widths();
+    // By the first meeting of the writer with each pass, a lookup is made after all that the writer has done; by
+    // the second one, it has done nothing since.
+    meet_all(table, writer, desks);
+    answer_all(rt, table, gate, addrs, desks);
+    meet_all(table, writer, desks);
+    for desk in &*desks {
+        if joined.extend_from_slice(&desk.hops).is_err() {
+            unreachable!();
+        }
+    }
     Ok(joined)
 }

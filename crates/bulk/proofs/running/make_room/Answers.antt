@@ -20,21 +20,23 @@ loop-number-preserved c =
     let desks = c.loop-number.desks in
     let within : i < length desks = omega arith in
     let counts : ℕ → ℕ = λ k. length (piece_of c.args.addrs.now (length c.args.desks.now) k) in
+    let old : Desk = get_or desks i c.index-desks-number.result in
+    let new : Desk = record { pass = old.pass; hops = c.resize.new.self } in
     record {
-      passes = one_more KeepsPass i c.args.desks.now desks c.index-desks-number.result
-          c.make_room_at.new.desk within known.passes c.in_ok-make_room_at.ensures.pass;
-      room = place_more (λ k desk. vec_len desk.hops ≡ counts k) i desks c.make_room_at.new.desk within
-          known.room (c.in_ok-make_room_at.ensures.room ∙ ap length c.piece_at-count.ensures);
+      passes = one_more KeepsPass i c.args.desks.now desks c.index-desks-number.result new within known.passes refl;
+      room = place_more (λ k desk. vec_len desk.hops ≡ counts k) i desks new within known.room
+          (c.in_ok-resize.ensures.len ∙ ap length c.piece_at-count.ensures);
     }
 
-pub returns-in_err-make_room_at-clause-passes : goal.returns-in_err-make_room_at-clause-passes
-returns-in_err-make_room_at-clause-passes c =
+pub returns-in_err-resize-clause-passes : goal.returns-in_err-resize-clause-passes
+returns-in_err-resize-clause-passes c =
     let i = c.loop-number.number in
     let desks = c.loop-number.desks in
     let within : i < length desks = omega arith in
+    let old : Desk = get_or desks i c.index-desks-number.result in
     up_to_all KeepsPass (λ x. refl) (i + 1) c.args.desks.now _
     (one_more KeepsPass i c.args.desks.now desks c.index-desks-number.result
-    c.make_room_at.new.desk within c.loop-number.invariant.passes c.make_room_at.ensures.pass)
+    (record { pass = old.pass; hops = c.resize.new.self }) within c.loop-number.invariant.passes refl)
 
 pub returns-clause-passes : goal.returns-clause-passes
 returns-clause-passes c = up_to_all KeepsPass (λ x. refl) c.loop-number.number
