@@ -1,13 +1,11 @@
 //! The text of the answers to addresses, by a table of one thread or by a running one.
 ghost use Rattle.std.specs.Prelude.{◌≡◌, ◌<◌, IfOk, IfErr};
-ghost use Rattle.lpm_rules.specs.Longest.{AreLongestHops};
 ghost use Rattle.shared_fib.specs.Passes.{IsFullBench};
 ghost use Rattle.lpm_commands.specs.Lookup.{IsAnswerText, IsAnswered, EndsAnswering, ending_of};
 
 use crate::loading::Running;
 use bulk::{BulkError, Gate, bulk, bulk_plain, seat_all};
 use fib::Fib;
-use lpm_bits::Hop;
 use lpm_files::{Failure, answers_text_on};
 use lpm_limits::Refusal;
 use std::alloc::Global;
@@ -53,42 +51,16 @@ pub fn text_of_live_answers<'a, R: Threads + Sync, G: Gate>(
     ensures failure { IfErr result (EndsAnswering workers) }
 {
     let mut running = running;
-    let hops = live_hops(rt, alloc, &mut running, workers, addrs, gate)?;
-    drop(running);
-    Ok(answers_text_on(rt, alloc, addrs, &hops, workers)?)
-}
-
-// The next hops of the addresses by a running table that was just opened, with a desk for each worker.
-fn live_hops<'a, R: Threads + Sync, G: Gate>(
-    rt: &R,
-    alloc: Global,
-    running: &mut Running,
-    workers: usize,
-    addrs: &[u32],
-    gate: &G,
-) -> Result<Vec<Option<Hop>>, Failure<'a>>
-    requires own { running.old.writer.identity ≡ running.old.table }
-    requires full { IsFullBench running.old.table running.old.bench }
-    requires workers { workers ≡ running.old.table.initial.workers }
-    ensures workers { IfOk result (λ v. 0 < workers) }
-    ensures hops { IfOk result (λ v.
-        AreLongestHops 32 running.old.writer.table.rules addrs.now v.items) }
-    ensures failure { IfErr result (EndsAnswering workers) }
-{
     let table = &running.table;
     let mut desks = seat_all(alloc, table, &mut running.bench, workers)?;
-    match bulk(
-        rt,
-        alloc,
-        table,
-        &mut running.writer,
-        desks.as_mut_slice(),
-        addrs,
-        gate,
-    ) {
-        Ok(hops) => Ok(hops),
-        Err(error) => Err(ending_of(error)),
-    }
+    let seats = desks.as_mut_slice();
+    let hops = match bulk(rt, alloc, table, &mut running.writer, seats, addrs, gate) {
+        Ok(hops) => hops,
+        Err(error) => return Err(ending_of(error)),
+    };
+    drop(desks);
+    drop(running);
+    Ok(answers_text_on(rt, alloc, addrs, &hops, workers)?)
 }
 
 // What addresses that were not answered end the run with.
