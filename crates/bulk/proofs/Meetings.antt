@@ -9,7 +9,7 @@ use Rattle.lpm_trace.specs.Writer.{IsWritten}
 use Rattle.lpm_trace.proofs.Traces.{oldest_all}
 use Rattle.shared_words.specs.Rule.{IsLater}
 use Rattle.shared_words.proofs.Deeds.{between, later_trans}
-use Rattle.shared_fib.specs.Running.{Identity, WriterState, IsAtRest, initial_state, steps_of}
+use Rattle.shared_fib.specs.RunningTable.{Identity, WriterState, IsAtRest, initial_state, steps_of}
 use Rattle.shared_fib.specs.Versions.{updates_begun, updates_done}
 use Rattle.shared_fib.specs.Passes.{PassState, IsOfVersion, LooksUp, IsHistory, Makes}
 use Rattle.shared_fib.proofs.Versions.{counts, version_is}

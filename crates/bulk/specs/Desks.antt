@@ -5,7 +5,7 @@ use Rattle.lpm_rules.specs.Longest.{AreLongestHops}
 use Rattle.lpm_trace.specs.declared.step.WriterStep.{WriterStep}
 use Rattle.lpm_trace.specs.Writer.{IsWritten}
 use Rattle.shared_words.specs.Rule.{IsLater}
-use Rattle.shared_fib.specs.Running.{Identity, WriterState, IsAtRest, initial_state, steps_of}
+use Rattle.shared_fib.specs.RunningTable.{Identity, WriterState, IsAtRest, initial_state, steps_of}
 use Rattle.shared_fib.specs.Passes.{PassState, IsHistory}
 use Rattle.bulk.specs.declared.desk.Desk.{Desk}
 use Rattle.bulk.specs.Pieces.{piece_of}

@@ -10,11 +10,11 @@ mod desk;
 mod gate;
 mod pieces;
 mod plain;
-mod running;
+mod running_table;
 
 pub use bulk_error::BulkError;
 pub use desk::{Desk, seat_all};
 pub use gate::{Gate, Open};
 pub use pieces::piece_start;
 pub use plain::bulk_plain;
-pub use running::bulk;
+pub use running_table::bulk;

@@ -1,6 +1,6 @@
 //! A module for each crate, or for each way in which a table is tried.
 
-mod asserting;
+mod asserts;
 mod bits;
 mod cases;
 mod cells;

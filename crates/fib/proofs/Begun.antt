@@ -16,7 +16,7 @@ use Rattle.lpm_trace.specs.States.{InitialState, Status, Unused, Retired}
 use Rattle.lpm_writer.specs.declared.plain_memory.PlainMemory.{PlainMemory}
 use Rattle.lpm_writer.specs.declared.control.ControlState.{ControlState}
 use Rattle.lpm_writer.specs.declared.pool.GroupPool.{GroupPool}
-use Rattle.lpm_writer.specs.Resting.{IsResting}
+use Rattle.lpm_writer.specs.Rest.{IsResting}
 use Rattle.lpm_writer.proofs.Initial.{status_at_first, unused_retired, beginning, begins_resting}
 use Rattle.lpm_writer.proofs.Reclaims.{linked_not_retired}
 use Rattle.lpm_writer.proofs.Unchanged.{unchanging, unchanged, unchanged_stays, rests_after_unchanged}

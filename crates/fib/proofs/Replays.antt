@@ -10,7 +10,7 @@ use Rattle.fib_model.specs.declared.orders.Outcome.{Outcome}
 use Rattle.fib_model.specs.declared.event.Event.{Event}
 use Rattle.fib_model.specs.State.{State}
 use Rattle.fib_model.specs.Outcomes.{Log, Runs, log_after, groups_in_use}
-use Rattle.fib_model.specs.Counting.{by_counters, initial_by_counters}
+use Rattle.fib_model.specs.Counters.{by_counters, initial_by_counters}
 use Rattle.fib_model.specs.Textbook.{by_intervals, initial_by_events}
 use Rattle.fib_model.specs.Laws.{Agrees, history, last_of}
 use Rattle.fib_model.proofs.Runs.{counters_tell_intervals}

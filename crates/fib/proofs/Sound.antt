@@ -10,7 +10,7 @@ use Rattle.qsbr.specs.Counters.{IsPast, Passes, Registry, with_counter}
 use Rattle.defer_queue.specs.declared.Reclaimed.{Reclaimed}
 use Rattle.fib_model.specs.State.{State}
 use Rattle.fib_model.specs.Outcomes.{Adds, Deletes, Flushes, Frees}
-use Rattle.fib_model.specs.Counting.{counter_transitions}
+use Rattle.fib_model.specs.Counters.{counter_transitions}
 use Rattle.fib_model.proofs.Carrying.{AreFollowed, Follows, beside}
 use Rattle.fib_model.proofs.Carried.{changes_carry_over}
 use Rattle.lpm_trace.specs.declared.step.WriterStep.{WriterStep}
@@ -18,7 +18,7 @@ use Rattle.lpm_trace.specs.States.{InitialState, state_after}
 use Rattle.lpm_writer.specs.declared.plain_memory.PlainMemory.{PlainMemory}
 use Rattle.lpm_writer.specs.Plain.{PlainDid}
 use Rattle.lpm_writer.specs.declared.control.ControlState.{ControlState}
-use Rattle.lpm_writer.specs.Resting.{IsResting, state_of}
+use Rattle.lpm_writer.specs.Rest.{IsResting, state_of}
 use Rattle.lpm_writer.specs.Traced.{WithSteps, by_writer}
 use Rattle.lpm_writer.proofs.Awaiting.{started_all}
 use Rattle.lpm_writer.proofs.StepsAlone.{named_is, named_same}

@@ -6,7 +6,7 @@ use Rattle.std.proofs.lemmas.Bool.Decides.{eqb_tells}
 use Rattle.qsbr.specs.Counters.{IsPast, Passes, Registry}
 use Rattle.lpm_limits.specs.declared.busy.Busy.{Busy}
 use Rattle.fib_model.specs.State.{looks}
-use Rattle.fib_model.specs.Counting.{counter_transitions, IsFirstByCounter}
+use Rattle.fib_model.specs.Counters.{counter_transitions, IsFirstByCounter}
 use Rattle.fib_model.proofs.Carrying.{Carries, IsCarried}
 use Rattle.lpm_trace.specs.declared.step.WriterStep.{WriterStep}
 use Rattle.lpm_trace.specs.declared.step.WriterStep.TheVariants.{StoreFirst, StoreSecond, BeginUpdate, EndUpdate, BumpToken, LoadCounter}

@@ -5,14 +5,14 @@ use Rattle.lpm_rules.specs.RuleMap.{RuleMap, coded_network}
 use Rattle.qsbr.specs.Counters.{Passes, Registry}
 use Rattle.lpm_limits.specs.declared.config.Config.{Config}
 use Rattle.fib_model.specs.declared.orders.ReaderReport.{ReaderReport}
-use Rattle.fib_model.specs.Counting.{by_counters, initial_by_counters}
+use Rattle.fib_model.specs.Counters.{by_counters, initial_by_counters}
 use Rattle.fib_model.specs.State.{State}
 use Rattle.lpm_trace.specs.declared.step.WriterStep.{WriterStep}
 use Rattle.lpm_trace.specs.States.{InitialState, state_after}
 use Rattle.lpm_writer.specs.declared.plain_memory.PlainMemory.{PlainMemory}
 use Rattle.lpm_writer.specs.Plain.{PlainDid}
 use Rattle.lpm_writer.specs.declared.control.ControlState.{ControlState}
-use Rattle.lpm_writer.specs.Resting.{IsResting, state_of}
+use Rattle.lpm_writer.specs.Rest.{IsResting, state_of}
 use Rattle.std.specs.FinMap.{get}
 use Rattle.lpm_bits.specs.Network.{Network, Covers}
 use Rattle.lpm_rules.specs.Longest.{IsLongestHop}
@@ -46,7 +46,7 @@ abbrev pub table_of : {first second : ℕ} → ControlState first second → Pla
     → State Registry
 table_of control memory = state_of control.rules.rules memory.domain control.pool control.versions
 
--- these steps of the writer may have led from the opening to the memory, and after them the control state
+-- these steps of the writer may have led from the initial state to the memory, and after them the control state
 -- rests; no worker holds what was given up under a token whose check has passed
 pub record HasSteps (first second : ℕ) (c : InitialState) (steps : List WriterStep)
     (control : ControlState first second) (memory : PlainMemory first second) : Type 0 where
@@ -54,7 +54,7 @@ pub record HasSteps (first second : ℕ) (c : InitialState) (steps : List Writer
   pub rests : IsResting first second c steps control.config control.rules control.pool control.versions
   pub passed : Passes (state_after c steps).passed memory.domain.counters
 
--- some opening and steps have led here
+-- some initial state and steps have led here
 abbrev pub IsSound : (first second : ℕ) → ControlState first second → PlainMemory first second → Type 0
 IsSound first second control memory =
     (c : InitialState) × (steps : List WriterStep) × HasSteps first second c steps control memory

@@ -11,7 +11,7 @@ use Rattle.fib_model.specs.declared.orders.Outcome.{Outcome}
 use Rattle.fib_model.specs.declared.event.Event.{Event}
 use Rattle.fib_model.specs.State.{State}
 use Rattle.fib_model.specs.Outcomes.{Log, Runs, log_after, groups_in_use}
-use Rattle.fib_model.specs.Counting.{by_counters, initial_by_counters}
+use Rattle.fib_model.specs.Counters.{by_counters, initial_by_counters}
 use Rattle.fib_model.specs.Textbook.{textbook, by_intervals, initial_by_events}
 use Rattle.fib_model.specs.Laws.{history, last_of, Agrees}
 use Rattle.fib.specs.declared.replay.Replay.{Replay}

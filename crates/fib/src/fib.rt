@@ -7,7 +7,7 @@ ghost use Rattle.lpm_rules.specs.Longest.{IsLongestHop, IsMatch};
 ghost use Rattle.lpm_rules.specs.RuleMap.{AreInOrder, rules_of, IsNextRule};
 ghost use Rattle.lpm_limits.specs.Limits.{IsConfig};
 ghost use Rattle.fib_model.specs.Outcomes.{groups_in_use, Adds, Deletes, Flushes, Frees};
-ghost use Rattle.fib_model.specs.Counting.{by_counters, counter_transitions};
+ghost use Rattle.fib_model.specs.Counters.{by_counters, counter_transitions};
 ghost use Rattle.fib.specs.Fib.{IsSound, initial_fib, initial_fib_at, initial_fib_with, table_of, state_after_report};
 ghost use Rattle.fib_model.specs.declared.orders.ReaderReport.TheVariants as report;
 ghost use Rattle.lpm_limits.specs.declared.refusal.Refusal.{Refusal};

@@ -2,7 +2,7 @@
 
 ghost use Rattle.std.specs.Prelude.{◌≡◌, ℕ, [], ◌∷◌, List, length, IfOk, OnErr};
 ghost use Rattle.fib_model.specs.Outcomes.{Does, Reports, Runs, log_after};
-ghost use Rattle.fib_model.specs.Counting.{by_counters};
+ghost use Rattle.fib_model.specs.Counters.{by_counters};
 ghost use Rattle.fib.specs.Replay.{GoesOn};
 
 use super::Fib;

@@ -11,7 +11,7 @@ ghost use Rattle.lpm_rules.specs.RuleMap.{RuleMap, AreInOrder, rules_of};
 ghost use Rattle.lpm_update.specs.Represents.{Represents};
 ghost use Rattle.lpm_sweep.specs.Swept.{AreNumbered, words_of};
 ghost use Rattle.fib_model.specs.Outcomes.{groups_in_use};
-ghost use Rattle.fib_model.specs.Counting.{initial_by_counters};
+ghost use Rattle.fib_model.specs.Counters.{initial_by_counters};
 ghost use Rattle.fib.specs.Fib.{IsSound, table_of};
 
 use defer_queue::DeferQueue;

@@ -12,7 +12,7 @@ mod pieces;
 mod report;
 mod rounds;
 mod routes;
-mod running;
+mod running_table;
 mod turns;
 mod words;
 

@@ -5,7 +5,7 @@ ghost use Rattle.lpm_limits.specs.Limits.{IsConfig};
 use crate::alone::print_alone;
 use crate::lookups::{Kind, draw_addresses};
 use crate::routes::{Route, fill};
-use crate::running::{Drawn, WORKERS, add_offline, print_running};
+use crate::running_table::{Drawn, WORKERS, add_offline, print_running};
 use anyhow::Result;
 use fib::Fib;
 use lpm_limits::Config;

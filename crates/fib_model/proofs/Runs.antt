@@ -11,7 +11,7 @@ use Rattle.qsbr.specs.Intervals.{IsRunningSince, IsTidy}
 use Rattle.fib_model.specs.Textbook.{by_reports, textbook, by_intervals, initial_by_events, event_of}
 use Rattle.fib_model.specs.State.{State}
 use Rattle.fib_model.specs.Outcomes.{MayReport, Reports, Does, Log, Runs, log_after}
-use Rattle.fib_model.specs.Counting.{counter_transitions, by_counters, initial_by_counters}
+use Rattle.fib_model.specs.Counters.{counter_transitions, by_counters, initial_by_counters}
 use Rattle.fib_model.specs.Laws.{Agrees, CountersTellIntervals}
 use Rattle.fib_model.proofs.Holders.{Shows, IsName, online, held, shows_opened, shows_told, Names, names_newer, counters_carry}
 use Rattle.fib_model.proofs.Carrying.{Follows, AreFollowed, AreNamed, beside}

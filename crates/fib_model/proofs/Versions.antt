@@ -13,7 +13,7 @@ use Rattle.fib_model.specs.declared.orders.ReaderReport.{ReaderReport}
 use Rattle.fib_model.specs.declared.orders.ReaderReport.TheVariants as report
 use Rattle.fib_model.specs.State.{State, Keeping}
 use Rattle.fib_model.specs.Outcomes.{Does, Reports}
-use Rattle.fib_model.specs.Counting.{by_counters}
+use Rattle.fib_model.specs.Counters.{by_counters}
 use Rattle.fib_model.specs.Textbook.{by_intervals}
 use Rattle.fib_model.specs.Laws.{last_of, versions_after, history, RulesAreLastVersion, RulesAreLastVersionByCounters}
 

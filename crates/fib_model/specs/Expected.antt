@@ -23,15 +23,15 @@ IsSound c w = IsTidy by_reports c.workers (events_of w)
 
 -- the state with these rules, after so many updates
 abbrev pub state_with : RuleMap → ℕ → PlainLimbo → State (List Event)
-state_with rules begun w = record {
+state_with rules updates_begun w = record {
   rules = rules;
   readers = events_of w;
   limbo = w.places.items;
-  updates_begun = begun;
+  updates_begun = updates_begun;
 }
 
 abbrev pub state_of : {first second : ℕ} → Plain first second → State (List Event)
-state_of p = state_with p.rules.rules p.begun p.limbo
+state_of p = state_with p.rules.rules p.updates_begun p.limbo
 
 -- what a run of these commands has come to: the outcome of each, and the counts at its end
 pub record IsAccount (first second : ℕ) (c : Config) (orders : List (Order first second))

@@ -16,7 +16,7 @@ use Rattle.fib_model.specs.declared.event.Event.{Event}
 use Rattle.qsbr.specs.Intervals.{IsHeldByWorker}
 use Rattle.fib_model.specs.Textbook.{by_reports, textbook, by_intervals, initial_by_events}
 use Rattle.fib_model.specs.State.{State}
-use Rattle.fib_model.specs.Counting.{counter_transitions, by_counters, initial_by_counters}
+use Rattle.fib_model.specs.Counters.{counter_transitions, by_counters, initial_by_counters}
 use Rattle.fib_model.specs.declared.orders.Order.TheVariants as order
 use Rattle.fib_model.specs.declared.orders.Outcome.TheVariants as outcome
 

@@ -1,6 +1,6 @@
 pub mod State
 pub mod Outcomes
-pub mod Counting
+pub mod Counters
 pub mod Textbook
 pub mod Laws
 pub mod Expected

@@ -158,12 +158,12 @@ Does k f g c s other outcome z = ⊥
 abbrev pub Log : ℕ → ℕ → Type 0
 Log first second = List (Order first second × Outcome)
 
--- from `opening` on, the commands of the log came out so one after another, and left z
+-- from `initial` on, the commands of the log came out so one after another, and left z
 abbrev pub Runs : {X : Type 0} → Keeping X → (first second : ℕ) → Config → State X
     → Log first second → State X → Type 0
-Runs k first second c opening [] z = z ≡ opening
-Runs {X} k first second c opening (done ∷ log) z = (s : State X)
-    × Runs k first second c opening log s × Does k first second c s done.0 done.1 z
+Runs k first second c initial [] z = z ≡ initial
+Runs {X} k first second c initial (done ∷ log) z = (s : State X)
+    × Runs k first second c initial log s × Does k first second c s done.0 done.1 z
 
 -- the log after these commands, in order, and their outcomes
 abbrev pub log_after : {first second : ℕ} → Log first second → List (Order first second)

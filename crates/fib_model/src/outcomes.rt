@@ -31,7 +31,7 @@ pub fn expected<const FIRST: u32, const SECOND: u32>(
     Ok(Account {
         outcomes,
         rules: plain.rules.len(),
-        versions: plain.begun,
+        versions: plain.updates_begun,
         in_use: plain.rules.deep_blocks(),
         limbo: plain.limbo.places.len(),
         free: plain.free(config),

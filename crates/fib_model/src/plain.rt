@@ -36,7 +36,7 @@ pub struct Account {
 pub(crate) struct Plain<const FIRST: u32, const SECOND: u32> {
     pub(crate) rules: Rules<FIRST, SECOND>,
     pub(crate) limbo: PlainLimbo,
-    pub(crate) begun: u64,
+    pub(crate) updates_begun: u64,
 }
 
 impl<const FIRST: u32, const SECOND: u32> Plain<FIRST, SECOND> {
@@ -55,7 +55,7 @@ impl<const FIRST: u32, const SECOND: u32> Plain<FIRST, SECOND> {
         Plain {
             rules: Rules::new(alloc, config.rules),
             limbo: PlainLimbo::new(alloc),
-            begun: 0,
+            updates_begun: 0,
         }
     }
 
@@ -79,7 +79,7 @@ impl<const FIRST: u32, const SECOND: u32> Plain<FIRST, SECOND> {
             → HasTokens (textbook config.now) config.now (state_of self.now) }
     {
         let last = self.limbo.token(config) + config.groups as u64;
-        last > 1 << 62 || self.begun >= 1 << 61
+        last > 1 << 62 || self.updates_begun >= 1 << 61
     }
 
     /// Whether the new rule needs a group and none is free.
@@ -100,15 +100,15 @@ impl<const FIRST: u32, const SECOND: u32> Plain<FIRST, SECOND> {
 
     /// Stores a rule, as one more version.
     fn store(&mut self, prefix: &Prefix<FIRST, SECOND>, hop: Hop) -> Result<(), AllocError>
-        requires { self.old.begun < 2 ^ 61 }
+        requires { self.old.updates_begun < 2 ^ 61 }
         ensures rules { OnOk result
             (self.new.rules.rules ≡ map.insert self.old.rules.rules prefix.now hop) }
-        ensures begun { OnOk result (self.new.begun ≡ self.old.begun + 1) }
+        ensures begun { OnOk result (self.new.updates_begun ≡ self.old.updates_begun + 1) }
         ensures limbo { self.new.limbo ≡ self.old.limbo }
     {
         match self.rules.put(prefix, hop) {
             Ok(_) => {
-                self.begun += 1;
+                self.updates_begun += 1;
                 Ok(())
             }
             Err(_) => Err(AllocError),
@@ -171,18 +171,18 @@ impl<const FIRST: u32, const SECOND: u32> Plain<FIRST, SECOND> {
     /// Unlinks the groups of the blocks that have lost their last long rule, as one more version.
     fn shrink(&mut self, config: &Config, before: usize) -> Result<(), AllocError>
         requires config { IsConfig config.now }
-        requires begun { self.old.begun < 2 ^ 61 }
+        requires begun { self.old.updates_begun < 2 ^ 61 }
         requires sound { IsSound config.now self.old.limbo }
         ensures unlinked { OnOk result (Unlinks (textbook config.now) config.now
             (before - groups_in_use FIRST SECOND self.old.rules.rules)
             (events_of self.old.limbo) self.old.limbo.places.items
             (events_of self.new.limbo) self.new.limbo.places.items) }
         ensures sound { OnOk result (IsSound config.now self.new.limbo) }
-        ensures begun { self.new.begun ≡ self.old.begun + 1 }
+        ensures begun { self.new.updates_begun ≡ self.old.updates_begun + 1 }
         ensures rules { self.new.rules ≡ self.old.rules }
     {
         let lost = before.saturating_sub(self.rules.deep_blocks());
-        self.begun += 1;
+        self.updates_begun += 1;
         self.limbo.unlink_all(config, lost)
     }
 

@@ -11,7 +11,7 @@ use Rattle.lpm_trace.specs.Trace.{writes, worker_of, IsTrace, worker_by_step, Fi
 use Rattle.interleave.specs.World.{HasEnded as ActorHasEnded, IsScheduled, writer_items, IsInitial, IsPlayedOut, WorldDid, Reaches, scripts_and_schedule, WorldDoes}
 use Rattle.interleave.specs.View.{script_at, WorldView}
 use Rattle.lpm_writer.specs.Commands.{Rests}
-use Rattle.lpm_writer.specs.Resting.{blank_state}
+use Rattle.lpm_writer.specs.Rest.{blank_state}
 use Rattle.interleave.specs.declared.trace.Trace.{Trace}
 use Rattle.interleave.specs.Runs.{StateBySteps, HasTokensLeft, Waits, Answers, AgreesWithSteps, state_by_steps, IsPerformed, IsRun, initial_state_by_steps, HaveComeOut, InitialStatesAreSettled, RunsAreLawful}
 use Rattle.std.proofs.lemmas.Bool.{cases_lt}

@@ -9,7 +9,7 @@ use Rattle.lpm_trace.specs.States.{InitialState, state_after}
 use Rattle.lpm_writer.specs.declared.pool.GroupPool.{GroupPool}
 use Rattle.lpm_trace.proofs.Versions.{token_is}
 use Rattle.lpm_writer.specs.Traced.{Goes, Checks}
-use Rattle.lpm_writer.specs.Resting.{IsResting}
+use Rattle.lpm_writer.specs.Rest.{IsResting}
 use Rattle.lpm_writer.specs.Commands.{IsWaiting}
 use Rattle.lpm_writer.proofs.Checks.{check_stops}
 use Rattle.lpm_writer.proofs.StepsAlone.{checks_alone}

@@ -1,6 +1,6 @@
 -- Meaning: what a run shows of a trace: each step, and each finished lookup (this project's: a step is
 -- one load or one store of one word, told with its actor, its kind, its index and its value).
-use Rattle.std.specs.Prelude.{ℕ, ◌+◌, ◌*◌, ◌/◌, ◌%◌, ◌^◌, List, [], ◌∷◌, suc, ◌++◌, eqb, map, reverse}
+use Rattle.std.specs.Prelude.{ℕ, ◌+◌, ◌*◌, ◌/◌, ◌%◌, ◌^◌, List, [], ◌∷◌, suc, ◌++◌, ◌==◌, map, reverse}
 use Rattle.lpm_trace.specs.declared.kind.Actor.TheVariants.{Worker as WorkerActor, Writer as WriterActor}
 use Rattle.lpm_trace.specs.declared.kind.Kind.{Kind}
 use Rattle.lpm_trace.specs.declared.kind.Step.{Step}
@@ -107,4 +107,4 @@ all_seen (s ∷ steps) = all_seen steps ++ seen_in steps s
 
 -- those of worker k, in the same order
 abbrev pub seen_of : ℕ → List Seen → List Seen
-seen_of k seen = filter (λ s. eqb k s.worker) seen
+seen_of k seen = filter (λ s. k == s.worker) seen

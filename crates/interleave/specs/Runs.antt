@@ -16,8 +16,8 @@ use Rattle.fib_model.specs.Outcomes.{Adds, Deletes, Flushes, Frees}
 use Rattle.lpm_rules.specs.RuleMap.{RuleList}
 use Rattle.lpm_writer.specs.declared.pool.GroupPool.{GroupPool}
 use Rattle.lpm_writer.specs.Steps.{by_steps_from, AreStopped, Synchronizes, StoresOnce}
-use Rattle.lpm_writer.specs.Resting.{state_of, blank_state}
-use Rattle.lpm_writer.specs.Matching.{IsLimbo}
+use Rattle.lpm_writer.specs.Rest.{state_of, blank_state}
+use Rattle.lpm_writer.specs.GroupsMatch.{IsLimbo}
 use Rattle.interleave.specs.declared.reply.Reply.{Reply}
 use Rattle.interleave.specs.declared.reply.Reply.TheVariants.{Put, Deleted, Flushed, Reclaimed, Synchronized, Refused}
 use Rattle.std.specs.FinMap.{empty}
@@ -43,7 +43,7 @@ StateBySteps = State (List WriterStep)
 
 -- what a writer keeps after these steps
 abbrev pub state_by_steps : RuleList → List WriterStep → GroupPool → ℕ → StateBySteps
-state_by_steps rules steps pool begun = state_of rules.rules steps pool begun
+state_by_steps rules steps pool updates_begun = state_of rules.rules steps pool updates_begun
 
 -- the token that is started next after these steps
 abbrev pub next_token : InitialState → List WriterStep → ℕ
@@ -97,9 +97,9 @@ CameOut c f g config s change reply z = Answers c f g config s change reply z ×
 -- were answered one after another, and left z.
 abbrev pub HaveComeOut : InitialState → (f g : ℕ) → Config → ℕ → StateBySteps → List (Change f g × Reply) → StateBySteps
     → Type 0
-HaveComeOut c f g config n opening [] z = z ≡ opening
-HaveComeOut c f g config n opening (entry ∷ log) z = (s : StateBySteps)
-    × HaveComeOut c f g config n opening log s
+HaveComeOut c f g config n initial [] z = z ≡ initial
+HaveComeOut c f g config n initial (entry ∷ log) z = (s : StateBySteps)
+    × HaveComeOut c f g config n initial log s
     × (length s.readers < n) × (length z.readers ≤ n)
     × CameOut c f g config s entry.0 entry.1 z
 
@@ -120,14 +120,14 @@ AreUnanswered c f g config n s (change ∷ left) steps =
 
 -- the changes of the script were answered in order, as far as the writer's items lead; `steps` are the
 -- writer's, with those that the last change still needs
-pub record IsPerformed (c : InitialState) (f g : ℕ) (config : Config) (n : ℕ) (opening : StateBySteps)
+pub record IsPerformed (c : InitialState) (f g : ℕ) (config : Config) (n : ℕ) (initial : StateBySteps)
     (script : List (Change f g)) (replies : List Reply) (steps : List WriterStep) : Type 0 where
   pub log : List (Change f g × Reply)
   pub left : List (Change f g)
   pub last : StateBySteps
   pub script_is : script ≡ reverse (map (λ entry. entry.0) log) ++ left
   pub replies_are : replies ≡ reverse (map (λ entry. entry.1) log)
-  pub answered : HaveComeOut c f g config n opening log last
+  pub answered : HaveComeOut c f g config n initial log last
   pub unanswered : AreUnanswered c f g config n last left steps
 
 -- ---- traces of changes and deeds

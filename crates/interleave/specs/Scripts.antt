@@ -1,7 +1,7 @@
 -- Meaning: scripts of workers: the deeds of a worker one after another, and the steps that they are made
 -- of (DPDK Programmer's Guide, "RCU Library": a reader comes online, reports quiescent states and goes
 -- offline; Gupta, Lin and McKeown, INFOCOM 1998, section 3: a lookup reads one word or two).
-use Rattle.std.specs.Prelude.{◌≡◌, ℕ, ◌<◌, ◌⊎◌, ⊤, Bool, true, false, cond, eqb, All, List, [], ◌∷◌, ◌++◌, reverse}
+use Rattle.std.specs.Prelude.{◌≡◌, ℕ, ◌<◌, ◌⊎◌, ⊤, Bool, true, false, if◌then◌else◌, ◌==◌, All, List, [], ◌∷◌, ◌++◌, reverse}
 use Rattle.lpm_trace.specs.declared.kind.Deed.{Deed}
 use Rattle.lpm_trace.specs.declared.kind.Deed.TheVariants.{Online, Offline, Quiescent, Lookup, Lookup4, Meet}
 use Rattle.lpm_trace.specs.declared.step.WorkerStep.{WorkerStep}
@@ -63,7 +63,7 @@ AreOf deeds (step ∷ steps) = (GoesOn step × AreOf deeds steps)
 abbrev pub steps_by : ℕ → List TraceStep → List WorkerStep
 steps_by k [] = []
 steps_by k (ByWriter s ∷ steps) = steps_by k steps
-steps_by k (ByWorker j s ∷ steps) = cond (eqb k j) (s ∷ steps_by k steps) (steps_by k steps)
+steps_by k (ByWorker j s ∷ steps) = if k == j then s ∷ steps_by k steps else steps_by k steps
 
 -- these deeds of the script have begun, the newest first, and those are left, in order
 abbrev pub IsCut : List Deed → List Deed → List Deed → Type 0

@@ -80,7 +80,7 @@ AreAt first second seconds machines scripts steps =
     (k : ℕ) → k < length scripts → (machine : Machine) × IsWorker machines k machine
     × IsAt first second seconds machine (script_at scripts k) (worker_of k steps) (steps_by k steps)
 
--- from the opening c the used items made the trace, and beyond its end the writer made the steps
+-- from the initial state c the used items made the trace, and beyond its end the writer made the steps
 -- `beyond`; the shared words are what both leave. `whole` tells the writer's steps where it has no more
 -- to make; there is none until then
 pub record IsWorld (first second : ℕ) (v : WorldView) (c : InitialState) (whole : Option (List WriterStep))
@@ -101,7 +101,7 @@ pub record IsWorld (first second : ℕ) (v : WorldView) (c : InitialState) (whol
   pub late : beyond ≢ [] → v.stopped ≡ true
   pub in_time : beyond ≡ [] → v.stopped ≡ false
 
--- from the opening c the writer's steps so far may be these
+-- from the initial state c the writer's steps so far may be these
 abbrev pub WorldDid : ℕ → ℕ → WorldView → InitialState → List WriterStep → Type 0
 WorldDid first second v c steps =
     (trace : List TraceStep) × (beyond : List WriterStep)
@@ -153,7 +153,7 @@ abbrev pub AreNew : ℕ → List Machine → Type 0
 AreNew count machines = (k : ℕ) → k < count → (machine : Machine) × IsWorker machines k machine
     × IsNew machine
 
--- an opening of these widths, with room for the groups, so many workers and this token, in which each
+-- an initial state of these widths, with room for the groups, so many workers and this token, in which each
 -- word is a miss
 pub record IsInitial (first second groups workers token : ℕ) (c : InitialState) : Type 0 where
   pub first_bits : c.first ≡ first

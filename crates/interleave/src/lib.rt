@@ -1,17 +1,17 @@
 //! The pure world: one writer and its workers, who make their steps by a schedule.
 #![tactic(auto)]
 
-mod answering;
+mod initial;
 pub mod laws;
 mod memory;
-mod opening;
+mod outcomes;
 mod probe;
 mod reply;
 mod run_error;
 mod script;
 mod seen;
 mod shared;
-mod synchronizing;
+mod synchronize;
 mod trace;
 mod worker;
 mod world;

@@ -5,12 +5,12 @@ ghost use Rattle.std.specs.FinMap.{empty};
 ghost use Rattle.lpm_bits.specs.Widths.{IsShape};
 ghost use Rattle.lpm_limits.specs.Limits.{IsConfig};
 ghost use Rattle.interleave.specs.Scripts.{IsSound};
-ghost use Rattle.lpm_writer.specs.Resting.{blank_state, IsResting};
+ghost use Rattle.lpm_writer.specs.Rest.{blank_state, IsResting};
 ghost use Rattle.interleave.specs.View.{script_at};
 ghost use Rattle.interleave.specs.declared.run_error.RunError.TheVariants.{BadConfig as IsBadConfig, Memory as IsMemory};
 ghost use Rattle.interleave.specs.Runs.{IsRun};
 
-use super::answering::answer_all;
+use super::outcomes::answer_all;
 use super::{RunError, Trace};
 use crate::WorldMemory;
 use lpm_limits::Config;

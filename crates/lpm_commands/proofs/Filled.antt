@@ -24,12 +24,12 @@ use Rattle.lpm_rules.proofs.Deep.{has_deep_blocks, put_brings_block, deep_blocks
 use Rattle.qsbr.specs.Counters.{Registry}
 use Rattle.fib_model.specs.State.{State, HasTokens}
 use Rattle.fib_model.specs.Outcomes.{Adds, LacksGroup, HoldsFront, groups_in_use}
-use Rattle.fib_model.specs.Counting.{counter_transitions, initial_by_counters}
+use Rattle.fib_model.specs.Counters.{counter_transitions, initial_by_counters}
 use Rattle.fib.specs.Fib.{FibState, initial_fib_with}
 use Rattle.route_text.specs.declared.routes.Route.{Route}
 use Rattle.lpm_files.specs.declared.failure.Failure.{Failure}
 use Rattle.lpm_files.specs.declared.failure.Failure.TheVariants as failures
-use Rattle.lpm_commands.specs.Loading.{Loads, IsLoaded, IsFirstRefused, EndsLoading, addition_of, rules_of_routes}
+use Rattle.lpm_commands.specs.Load.{Loads, IsLoaded, IsFirstRefused, EndsLoading, addition_of, rules_of_routes}
 use Rattle.lpm_commands.specs.Filled.{Fits, IsFilled, BringsGroup, Refuses}
 use Rattle.lpm_commands.proofs.Texts.{added_rules, added_limbo, added_readers, rules_after-more, take_read, first_refused}
 

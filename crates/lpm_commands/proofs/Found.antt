@@ -14,9 +14,9 @@ use Rattle.fib.specs.Fib.{IsSound, table_of}
 use Rattle.route_text.specs.declared.routes.Route.{Route}
 use Rattle.route_text.specs.Files.{AreRoutes}
 use Rattle.route_text.specs.declared.explanations.Reading.{Reading}
-use Rattle.route_text.specs.Explaining.{explanation_lines}
+use Rattle.route_text.specs.Explanation.{explanation_lines}
 use Rattle.lpm_files.specs.Inputs.{Reads}
-use Rattle.lpm_commands.specs.Loading.{IsLoaded}
+use Rattle.lpm_commands.specs.Load.{IsLoaded}
 use Rattle.lpm_commands.specs.Explain.{AreCovering, IsAnsweredByFirst, reading_of, IsExplanation, AreExplanations, ExplainsBy, IsExplainText}
 use Rattle.std.specs.Prelude.{IsSome, MatchOption}
 use Rattle.std.specs.Option.{option_to_list}

@@ -17,10 +17,10 @@ use Rattle.lpm_rules.proofs.Deep.{deep_blocks_empty, deep_inserted}
 use Rattle.qsbr.specs.Counters.{Registry}
 use Rattle.fib_model.specs.State.{State, HasTokens}
 use Rattle.fib_model.specs.Outcomes.{Adds, LacksGroup, groups_in_use}
-use Rattle.fib_model.specs.Counting.{counter_transitions, initial_by_counters}
+use Rattle.fib_model.specs.Counters.{counter_transitions, initial_by_counters}
 use Rattle.route_text.specs.declared.routes.Route.{Route}
 use Rattle.lpm_files.specs.declared.failure.Failure.{Failure}
-use Rattle.lpm_commands.specs.Loading.{Loads, addition_of, rules_of_routes, IsLoaded, IsFirstRefused, EndsLoading}
+use Rattle.lpm_commands.specs.Load.{Loads, addition_of, rules_of_routes, IsLoaded, IsFirstRefused, EndsLoading}
 use Rattle.lpm_commands.specs.Filled.{is_long, long_routes, IsEnough, BringsGroup}
 use Rattle.lpm_commands.proofs.Filled.{grouped, put_groups}
 use Rattle.lpm_commands.proofs.Texts.{added_limbo, added_readers}

@@ -11,7 +11,7 @@ use Rattle.lpm_rules.specs.Changes.{rules_after}
 use Rattle.lpm_rules.specs.declared.Rule.{Rule}
 use Rattle.lpm_rules.proofs.Views.{networks_total, exact_networks}
 use Rattle.route_text.specs.declared.routes.Route.{Route}
-use Rattle.lpm_commands.specs.Loading.{addition_of, rules_of_routes}
+use Rattle.lpm_commands.specs.Load.{addition_of, rules_of_routes}
 use Rattle.lpm_commands.specs.Filled.{rule_of}
 
 -- ---- the rules of routes

@@ -10,7 +10,7 @@ use Rattle.route_text.specs.Updates.{AreUpdates}
 use Rattle.lpm_files.specs.declared.failure.Failure.{Failure}
 use Rattle.lpm_files.specs.Inputs.{Reads, IsKnownAs, AreRead}
 use Rattle.lpm_files.specs.Output.{Begins, Writes, WritesBeginning}
-use Rattle.lpm_commands.specs.Loading.{IsLoaded, HasTable, EndsLoading, Loads, addition_of, IsFirstRefused, rules_of_routes}
+use Rattle.lpm_commands.specs.Load.{IsLoaded, HasTable, EndsLoading, Loads, addition_of, IsFirstRefused, rules_of_routes}
 use Rattle.lpm_commands.specs.Lookup.{lookup_files, EndsAnswering, EndsLookup, IsAnswered, IsAnswerText, IsLookupText}
 use Rattle.lpm_commands.specs.Apply.{apply_files, EndsApply, EndsTelling, IsToldOver, IsApplyText}
 use Rattle.std.proofs.Math.Seq.{drop-cons}
@@ -27,7 +27,7 @@ use Rattle.lpm_rules.specs.declared.Put.TheVariants.{Added, Replaced, Unchanged}
 use Rattle.lpm_rules.proofs.Views.{insert_same}
 use Rattle.lpm_bits.specs.Network.{Network}
 use Rattle.fib_model.specs.Outcomes.{Adds}
-use Rattle.fib_model.specs.Counting.{counter_transitions, initial_by_counters}
+use Rattle.fib_model.specs.Counters.{counter_transitions, initial_by_counters}
 use Rattle.std.proofs.lemmas.List.Elements.{All-cons, All-nil}
 use Rattle.storm.specs.declared.plan.Plan.{Plan}
 use Rattle.storm.specs.Writer.{IsForWriter}

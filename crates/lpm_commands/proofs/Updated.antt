@@ -9,14 +9,14 @@ use Rattle.fib_model.specs.declared.orders.Outcome.TheVariants as outcomes
 use Rattle.fib_model.specs.declared.event.Event.{Event}
 use Rattle.fib_model.specs.State.{State}
 use Rattle.fib_model.specs.Outcomes.{Log, Runs, log_after, groups_in_use}
-use Rattle.fib_model.specs.Counting.{by_counters, initial_by_counters}
+use Rattle.fib_model.specs.Counters.{by_counters, initial_by_counters}
 use Rattle.fib_model.specs.Laws.{history, last_of, Agrees}
 use Rattle.fib_model.proofs.Versions.{rules_are_last_version}
 use Rattle.fib.specs.Fib.{FibState}
 use Rattle.route_text.specs.declared.routes.Route.{Route}
 use Rattle.fib_model.specs.declared.orders.Order.{Order}
 use Rattle.audit.specs.declared.report.TableCounts.{TableCounts}
-use Rattle.lpm_commands.specs.Loading.{Loads, IsLoaded}
+use Rattle.lpm_commands.specs.Load.{Loads, IsLoaded}
 use Rattle.lpm_commands.specs.Apply.{loading_of, ComesOut, IsUpdated}
 use Rattle.lpm_commands.specs.Report.{IsCountOf, IsReportOf}
 

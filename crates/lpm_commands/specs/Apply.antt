@@ -20,7 +20,7 @@ use Rattle.route_text.specs.Texts.{outcome_lines}
 use Rattle.lpm_files.specs.declared.failure.Failure.{Failure}
 use Rattle.lpm_files.specs.declared.failure.Failure.TheVariants.{CannotWrite}
 use Rattle.lpm_files.specs.Inputs.{Input, Reads, route_file, update_file, address_file, AreRead, EndsAtOne}
-use Rattle.lpm_commands.specs.Loading.{IsLoaded, EndsLoading, EndsTable, HasTable}
+use Rattle.lpm_commands.specs.Load.{IsLoaded, EndsLoading, EndsTable, HasTable}
 use Rattle.lpm_commands.specs.Lookup.{IsAnswered, EndsAnswering}
 use Rattle.fib_model.specs.declared.orders.Order.TheVariants as orders
 use Rattle.fib_model.specs.declared.orders.Outcome.TheVariants as outcomes

@@ -17,11 +17,11 @@ use Rattle.qsbr.specs.Counters.{Registry}
 use Rattle.fib_model.specs.State.{State}
 use Rattle.route_text.specs.declared.routes.Route.{Route}
 use Rattle.route_text.specs.Files.{AreRoutes}
-use Rattle.route_text.specs.Explaining.{explanation_lines}
+use Rattle.route_text.specs.Explanation.{explanation_lines}
 use Rattle.lpm_files.specs.declared.failure.Failure.{Failure}
 use Rattle.lpm_files.specs.declared.failure.Failure.TheVariants.{CannotWrite}
 use Rattle.lpm_files.specs.Inputs.{Input, Reads, AreRead, EndsAtOne, route_file}
-use Rattle.lpm_commands.specs.Loading.{rules_of_routes, IsLoaded, EndsTable}
+use Rattle.lpm_commands.specs.Load.{rules_of_routes, IsLoaded, EndsTable}
 use Rattle.lpm_cells.specs.declared.entry.Entry.TheVariants as entries
 
 -- The rules that cover an address (Gupta, Lin and McKeown, INFOCOM 1998, section 1: the longest of

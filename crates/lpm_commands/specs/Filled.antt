@@ -13,7 +13,7 @@ use Rattle.lpm_rules.specs.declared.Rule.{Rule}
 use Rattle.qsbr.specs.Counters.{Registry}
 use Rattle.fib_model.specs.State.{State}
 use Rattle.fib_model.specs.Outcomes.{groups_in_use}
-use Rattle.fib_model.specs.Counting.{initial_by_counters}
+use Rattle.fib_model.specs.Counters.{initial_by_counters}
 use Rattle.route_text.specs.declared.routes.Route.{Route}
 
 -- the rule that a route puts in

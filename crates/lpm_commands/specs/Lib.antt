@@ -1,4 +1,4 @@
-pub mod Loading
+pub mod Load
 pub mod Filled
 pub mod Lookup
 pub mod Explain

@@ -16,7 +16,7 @@ use Rattle.lpm_files.specs.declared.failure.Failure.{Failure}
 use Rattle.lpm_files.specs.declared.failure.Failure.TheVariants.{CannotWrite, Memory, Refused}
 use Rattle.lpm_files.specs.Inputs.{Input, Reads, route_file, address_file}
 use Rattle.lpm_files.specs.Inputs.{AreRead, EndsAtOne}
-use Rattle.lpm_commands.specs.Loading.{rules_of_routes, IsLoaded, EndsTable, HasTable}
+use Rattle.lpm_commands.specs.Load.{rules_of_routes, IsLoaded, EndsTable, HasTable}
 
 -- the text has a line for each address with its longest match
 abbrev pub IsAnswerText : RuleMap → List ℕ → List ℕ → Type 0

@@ -21,7 +21,7 @@ use Rattle.lpm_files.specs.declared.failure.Failure.{Failure}
 use Rattle.lpm_files.specs.declared.failure.Failure.TheVariants.{CannotWrite}
 use Rattle.lpm_files.specs.Inputs.{Input, Reads, route_file, update_file}
 use Rattle.lpm_files.specs.Inputs.{AreRead, EndsAtOne}
-use Rattle.lpm_commands.specs.Loading.{IsLoaded, EndsTable}
+use Rattle.lpm_commands.specs.Load.{IsLoaded, EndsTable}
 use Rattle.lpm_commands.specs.Apply.{ComesOut, IsUpdated}
 
 -- the report has what the table counts

@@ -22,7 +22,7 @@ use Rattle.storm.specs.Storm.{EndsBefore, EndsStorm, IsInRange, limits_of, IsSto
 use Rattle.lpm_files.specs.declared.failure.Failure.{Failure}
 use Rattle.lpm_files.specs.declared.failure.Failure.TheVariants as failures
 use Rattle.lpm_files.specs.Inputs.{Reads, AreRead, EndsAtOne}
-use Rattle.lpm_commands.specs.Loading.{EndsLoading, IsLoaded}
+use Rattle.lpm_commands.specs.Load.{EndsLoading, IsLoaded}
 use Rattle.lpm_commands.specs.Filled.{rule_of}
 use Rattle.lpm_commands.specs.Apply.{apply_files}
 

@@ -3,7 +3,7 @@ ghost use Rattle.std.specs.Prelude.{◌≡◌, ◌<◌, IfOk, IfErr};
 ghost use Rattle.shared_fib.specs.Passes.{IsFullBench};
 ghost use Rattle.lpm_commands.specs.Lookup.{IsAnswerText, IsAnswered, EndsAnswering, ending_of};
 
-use crate::loading::Running;
+use crate::tables::Running;
 use bulk::{BulkError, Gate, bulk, bulk_plain, seat_all};
 use fib::Fib;
 use lpm_files::{Failure, answers_text_on};

@@ -6,8 +6,8 @@ ghost use Rattle.lpm_commands.specs.Apply.{IsApplyText, IsToldAfter, IsToldOver,
 ghost use Rattle.lpm_commands.specs.Lookup.{EndsAnswering};
 
 use crate::answers::text_of_answers;
-use crate::loading::load;
-use crate::updating::update;
+use crate::tables::load;
+use crate::updates::update;
 use bulk::Gate;
 use fib::Fib;
 use lpm_files::{Failure, Files, Updates, put_text, read_addresses_on, read_list, read_routes_on};
@@ -49,14 +49,14 @@ pub fn apply<'a, R: Threads + Sync, F: Files, G: Gate, W: Write>(
     ensures failure { IfErr result (EndsApply config
         routes.entry.now updates.entry.now addresses.entry.now (F.bytes files.now)) }
 {
-    let text = whole_text(rt, alloc, files, routes, updates, addresses, config, gate)?;
+    let text = text_of_files(rt, alloc, files, routes, updates, addresses, config, gate)?;
     put_text(out, &text)
 }
 
 // The whole text, before anything is written. It isn't inlined where the commands are told apart, so that
 // the loops of `lookup`, which are, keep their registers.
 #[inline(never)]
-fn whole_text<'a, R: Threads + Sync, F: Files, G: Gate>(
+fn text_of_files<'a, R: Threads + Sync, F: Files, G: Gate>(
     rt: &R,
     alloc: Global,
     files: &F,
@@ -76,12 +76,12 @@ fn whole_text<'a, R: Threads + Sync, F: Files, G: Gate>(
     let list = read_routes_on(rt, alloc, files, routes, config.workers)?;
     let orders = read_list::<Updates, F>(alloc, files, updates)?;
     let addrs = read_addresses_on(rt, alloc, files, addresses, config.workers)?;
-    text_over(rt, alloc, routes, &list, &orders, &addrs, config, gate)
+    text_of_lists(rt, alloc, routes, &list, &orders, &addrs, config, gate)
 }
 
 // The lines of the updates, and then those of the addresses, by a table of the routes of the file of
 // this path.
-fn text_over<'a, R: Threads + Sync, G: Gate>(
+fn text_of_lists<'a, R: Threads + Sync, G: Gate>(
     rt: &R,
     alloc: Global,
     path: &'a str,
@@ -96,11 +96,11 @@ fn text_over<'a, R: Threads + Sync, G: Gate>(
     ensures failure { IfErr result (EndsTelling config path.entry.now routes.now) }
 {
     let mut table = load(alloc, path, routes, config)?;
-    text_after(rt, alloc, &mut table, orders, addrs, gate)
+    text_on_table(rt, alloc, &mut table, orders, addrs, gate)
 }
 
 // The lines of the updates, and then those of the addresses.
-fn text_after<'a, R: Threads + Sync, G: Gate>(
+fn text_on_table<'a, R: Threads + Sync, G: Gate>(
     rt: &R,
     alloc: Global,
     table: &mut Fib<24, 8>,

@@ -4,8 +4,8 @@ ghost use Rattle.lpm_limits.specs.Limits.{IsConfig};
 ghost use Rattle.lpm_files.specs.Output.{Writes, WritesBeginning};
 ghost use Rattle.lpm_commands.specs.Explain.{IsExplanation, AreExplanations, ExplainsBy, IsExplainText, EndsExplain};
 
-use crate::covering::{covering_rules, reading};
-use crate::loading::load;
+use crate::explanation::{covering_rules, reading};
+use crate::tables::load;
 use fib::Fib;
 use lpm_cells::PlainCells;
 use lpm_files::{Failure, Files, Routes, put_text, read_list};

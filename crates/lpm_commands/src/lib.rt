@@ -3,20 +3,20 @@
 
 mod answers;
 mod apply_command;
-mod covering;
 mod explain_command;
-mod loading;
+mod explanation;
 mod lookup_command;
 mod migrate_command;
-mod ordering;
 mod refusals;
 mod report_command;
+mod sorted_rules;
 mod storm_command;
-mod updating;
+mod tables;
+mod updates;
 
 pub use apply_command::apply;
-pub use covering::{covering_rules, reading};
 pub use explain_command::explain;
+pub use explanation::{covering_rules, reading};
 pub use lookup_command::lookup;
 pub use migrate_command::migrate;
 pub use report_command::report;

@@ -5,7 +5,7 @@ ghost use Rattle.lpm_files.specs.Output.{Writes, WritesBeginning};
 ghost use Rattle.lpm_commands.specs.Lookup.{IsLookupText, EndsLookup};
 
 use crate::answers::text_of_live_answers;
-use crate::loading::open_for_lookups;
+use crate::tables::open_for_lookups;
 use bulk::Gate;
 use lpm_files::{Failure, Files, put_text, read_addresses_on, read_routes_on};
 use lpm_limits::Config;

@@ -5,8 +5,8 @@ ghost use Rattle.std.specs.FinMap.{get, len};
 ghost use Rattle.lpm_limits.specs.Limits.{IsConfig};
 ghost use Rattle.lpm_rules.specs.RuleMap.{with_rule};
 ghost use Rattle.fib_model.specs.Outcomes.{groups_in_use};
-ghost use Rattle.fib_model.specs.Counting.{initial_by_counters};
-ghost use Rattle.lpm_commands.specs.Loading.{EndsLoading, IsLoaded};
+ghost use Rattle.fib_model.specs.Counters.{initial_by_counters};
+ghost use Rattle.lpm_commands.specs.Load.{EndsLoading, IsLoaded};
 ghost use Rattle.lpm_commands.specs.Filled.{BringsGroup, Fits, Refuses};
 
 use lpm_files::Failure;

@@ -2,11 +2,11 @@
 ghost use Rattle.std.specs.Prelude.{◌≡◌, ◌≢◌, IfOk, IfErr, OnOk, IsErrOf};
 ghost use Rattle.lpm_limits.specs.Limits.{IsConfig};
 ghost use Rattle.lpm_files.specs.Output.{Writes, WritesBeginning};
-ghost use Rattle.lpm_commands.specs.Loading.{EndsLoading};
+ghost use Rattle.lpm_commands.specs.Load.{EndsLoading};
 ghost use Rattle.lpm_commands.specs.Report.{IsReportText, IsReportedAfter, IsReportedOver, IsCountOf, EndsReport};
 
-use crate::loading::load;
-use crate::updating::update;
+use crate::tables::load;
+use crate::updates::update;
 use audit::{TableCounts, report_text};
 use fib::Fib;
 use lpm_files::{Failure, Files, Routes, Updates, put_text, read_list};
@@ -42,14 +42,14 @@ pub fn report<'a, F: Files, W: Write>(
     ensures failure { IfErr result
         (EndsReport config routes.entry.now updates.entry.now (F.bytes files.now)) }
 {
-    let text = whole_text(alloc, files, routes, updates, config)?;
+    let text = text_of_files(alloc, files, routes, updates, config)?;
     put_text(out, &text)
 }
 
 // The whole text, before anything is written. It isn't inlined where the commands are told apart, so that
 // the loops of `lookup`, which are, keep their registers.
 #[inline(never)]
-fn whole_text<'a, F: Files>(
+fn text_of_files<'a, F: Files>(
     alloc: Global,
     files: &F,
     routes: &'a str,
@@ -65,11 +65,11 @@ fn whole_text<'a, F: Files>(
 {
     let list = read_list::<Routes, F>(alloc, files, routes)?;
     let orders = read_list::<Updates, F>(alloc, files, updates)?;
-    text_over(alloc, routes, &list, &orders, config)
+    text_of_lists(alloc, routes, &list, &orders, config)
 }
 
 // The text of what a table of the routes of the file of this path counts after the updates.
-fn text_over<'a>(
+fn text_of_lists<'a>(
     alloc: Global,
     path: &'a str,
     routes: &[Route],
@@ -81,11 +81,11 @@ fn text_over<'a>(
     ensures failure { IfErr result (EndsLoading config path.entry.now routes.now) }
 {
     let mut table = load(alloc, path, routes, config)?;
-    text_after(alloc, &mut table, orders)
+    text_on_table(alloc, &mut table, orders)
 }
 
 // The text of what the table counts after the updates.
-fn text_after<'a>(
+fn text_on_table<'a>(
     alloc: Global,
     table: &mut Fib<24, 8>,
     orders: &[Order],

@@ -3,16 +3,16 @@ ghost use Rattle.std.specs.Prelude.{◌≡◌, ◌≢◌, ◌+◌, ◌<◌, ◌�
 ghost use Rattle.std.specs.Prelude.{IfOk, IfErr, OnOk, IsErrOf, length};
 ghost use Rattle.lpm_rules.specs.RuleMap.{rules_of};
 ghost use Rattle.shared_fib.specs.Passes.{IsFullBench};
-ghost use Rattle.shared_fib.specs.Running.{initial_writer};
+ghost use Rattle.shared_fib.specs.RunningTable.{initial_writer};
 ghost use Rattle.lpm_files.specs.Output.{Writes, WritesBeginning};
 ghost use Rattle.storm.specs.Writer.{IsForWriter};
 ghost use Rattle.storm.specs.Storm.{EndsStorm, IsInRange, IsStorm, limits_of};
-ghost use Rattle.lpm_commands.specs.Loading.{rules_of_routes};
+ghost use Rattle.lpm_commands.specs.Load.{rules_of_routes};
 ghost use Rattle.lpm_commands.specs.Storm.{IsStormText, IsTextAfter, IsTextOf, IsTextOver, ending_of, with_versions};
 ghost use Rattle.lpm_commands.specs.Storm.{EndsAfter, EndsBy, EndsOver, EndsRunning, EndsStormRun, changes_of, is_change};
 
-use crate::loading::{Running, open_for_changes};
-use crate::ordering::rules_of_routes;
+use crate::sorted_rules::rules_of_routes;
+use crate::tables::{Running, open_for_changes};
 use audit::{StormReport, TableCounts, storm_text};
 use bulk::Gate;
 use lpm_files::{Addresses, Failure, Files, Updates, put_text, read_list, read_routes_on};
@@ -60,7 +60,7 @@ pub fn storm<'a, R: Threads + Wait + Sync, F: Files, G: Gate, W: Write>(
     ensures failure { IfErr result (EndsStormRun config rounds has_stuck_worker
         routes.entry.now updates.entry.now addresses.entry.now (F.bytes files.now)) }
 {
-    let text = whole_text(
+    let text = text_of_files(
         rt,
         alloc,
         files,
@@ -76,7 +76,7 @@ pub fn storm<'a, R: Threads + Wait + Sync, F: Files, G: Gate, W: Write>(
 }
 
 // The whole text, before anything is written.
-fn whole_text<'a, R: Threads + Wait + Sync, F: Files, G: Gate>(
+fn text_of_files<'a, R: Threads + Wait + Sync, F: Files, G: Gate>(
     rt: &R,
     alloc: Global,
     files: &F,
@@ -98,7 +98,7 @@ fn whole_text<'a, R: Threads + Wait + Sync, F: Files, G: Gate>(
     let list = read_routes_on(rt, alloc, files, routes, config.workers)?;
     let orders = read_list::<Updates, F>(alloc, files, updates)?;
     let addrs = read_list::<Addresses, F>(alloc, files, addresses)?;
-    text_over(
+    text_of_lists(
         rt,
         alloc,
         routes,
@@ -114,7 +114,7 @@ fn whole_text<'a, R: Threads + Wait + Sync, F: Files, G: Gate>(
 
 // The text of the report of a storm of the updates and the addresses, on a table of the routes of the
 // file of this path.
-fn text_over<'a, R: Threads + Wait + Sync, G: Gate>(
+fn text_of_lists<'a, R: Threads + Wait + Sync, G: Gate>(
     rt: &R,
     alloc: Global,
     path: &'a str,
@@ -141,12 +141,12 @@ fn text_over<'a, R: Threads + Wait + Sync, G: Gate>(
         addrs,
         rounds,
     };
-    text_of(rt, alloc, &plan, path, routes, gate)
+    text_of_plan(rt, alloc, &plan, path, routes, gate)
 }
 
 // The text of the report of a storm of this plan. Its rules are those of the routes of the file of this
 // path.
-fn text_of<'a, R: Threads + Wait + Sync, G: Gate>(
+fn text_of_plan<'a, R: Threads + Wait + Sync, G: Gate>(
     rt: &R,
     alloc: Global,
     plan: &Plan<'_, 24, 8>,
@@ -161,13 +161,13 @@ fn text_of<'a, R: Threads + Wait + Sync, G: Gate>(
     ensures failure { IfErr result (EndsBy plan.now path.entry.now routes.now) }
 {
     match plan.table_limits() {
-        Ok(limits) => text_after(rt, alloc, plan, path, routes, limits, gate),
+        Ok(limits) => text_on_routes(rt, alloc, plan, path, routes, limits, gate),
         Err(error) => Err(ending_of(error)),
     }
 }
 
 // The text of the report of a storm of this plan on the table of the routes, which has these limits.
-fn text_after<'a, R: Threads + Wait + Sync, G: Gate>(
+fn text_on_routes<'a, R: Threads + Wait + Sync, G: Gate>(
     rt: &R,
     alloc: Global,
     plan: &Plan<'_, 24, 8>,
@@ -185,13 +185,13 @@ fn text_after<'a, R: Threads + Wait + Sync, G: Gate>(
     ensures failure { IfErr result (EndsAfter plan.now path.entry.now routes.now) }
 {
     match open_for_changes(alloc, path, routes, limits) {
-        Ok((running, versions)) => text_on(rt, alloc, plan, running, versions, gate),
+        Ok((running, versions)) => text_on_table(rt, alloc, plan, running, versions, gate),
         Err(failure) => Err(failure),
     }
 }
 
 // The text of the report of a storm of this plan on its table, where so many versions more are counted.
-fn text_on<'a, R: Threads + Wait + Sync, G: Gate>(
+fn text_on_table<'a, R: Threads + Wait + Sync, G: Gate>(
     rt: &R,
     alloc: Global,
     plan: &Plan<'_, 24, 8>,

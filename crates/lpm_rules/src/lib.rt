@@ -13,15 +13,15 @@ ghost use Rattle.lpm_rules.specs.RuleMap.{AllNetworks, HasRoomFor, LacksRoomFor,
 ghost use Rattle.lpm_rules.specs.Deep.{IsBlockOf, IsDeepBlock, IsLastBefore, block_of, deep_count, deep_blocks};
 ghost use Rattle.lpm_rules.specs.Longest.{IsLongestHop, IsUncovered, IsCoverRule};
 
-mod collecting;
-mod counting;
 pub mod laws;
-mod matching;
-mod walking;
+mod longest_match;
+mod maps;
+mod places;
+mod walk;
 
-use collecting::{maps_by_length, pairs_by_length};
-pub use counting::{count_rules, place_of};
 use lpm_bits::{Hop, Prefix};
+use maps::{maps_by_length, pairs_by_length};
+pub use places::{count_rules, place_of};
 use std::alloc::{AllocError, Global};
 use std::collections::BTreeMap;
 use std::error::Error;

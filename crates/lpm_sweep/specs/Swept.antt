@@ -8,7 +8,7 @@ use Rattle.lpm_update.specs.Best.{IsBest}
 use Rattle.lpm_sweep.specs.declared.frames.Frame.{Frame}
 use Rattle.lpm_sweep.specs.declared.frames.Frames.{Frames}
 use Rattle.lpm_update.specs.Linked.{IsLinkTo, group_at}
-use Rattle.lpm_sweep.specs.declared.sweeping.Swept.{Swept}
+use Rattle.lpm_sweep.specs.declared.whole_sweep.Swept.{Swept}
 
 -- A group that is filled upwards, for the rules of one block that are longer than FIRST bits.
 

@@ -9,13 +9,13 @@
 //! [`in_order`] brings rules into that order. Nothing here changes a table that is in use.
 #![tactic(auto)]
 
-mod filling;
 mod frames;
+mod group_words;
 pub mod laws;
-mod ordering;
-mod sweeping;
+mod order;
+mod whole_sweep;
 mod word_list;
 
-pub use ordering::{MOST_SORTED, in_order};
-pub use sweeping::{Swept, sweep, sweep_into};
+pub use order::{MOST_SORTED, in_order};
+pub use whole_sweep::{Swept, sweep, sweep_into};
 pub use word_list::WordList;

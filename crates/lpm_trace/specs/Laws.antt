@@ -1,7 +1,7 @@
 -- Meaning: what holds of each trace: answers, reuse of groups, rest, and versions that never fall
 -- (DPDK Programmer's Guide, "RCU Library": memory is used again after a grace period alone; this
 -- project's otherwise).
-use Rattle.std.specs.Prelude.{◌≡◌, ◌≢◌, ℕ, ◌/◌, ◌^◌, ◌<◌, ◌≤◌, ◌↔◌, ⊤, eqb, Bool, true, false, All, List, [], ◌∷◌, ◌++◌, length}
+use Rattle.std.specs.Prelude.{◌≡◌, ◌≢◌, ℕ, ◌/◌, ◌^◌, ◌<◌, ◌≤◌, ◌↔◌, ⊤, ◌==◌, Bool, true, false, All, List, [], ◌∷◌, ◌++◌, length}
 use Rattle.std.specs.List.{AllPairs}
 use Rattle.lpm_cells.specs.declared.entry.Entry.TheVariants.{Group}
 use Rattle.lpm_cells.specs.Words.{entry_in, IsWords}
@@ -55,15 +55,15 @@ LookupsAreLegal = (c : InitialState) (steps : List TraceStep) (worker : ℕ) →
 -- a reader interval of the worker begins with the step: its counter is stored in a report that it is
 -- online, or the token is loaded in a quiescent report
 abbrev pub begins : ℕ → TraceStep → Bool
-begins worker (ByWorker k (StoreOnline token)) = eqb worker k
-begins worker (ByWorker k (LoadQuiescent token)) = eqb worker k
+begins worker (ByWorker k (StoreOnline token)) = worker == k
+begins worker (ByWorker k (LoadQuiescent token)) = worker == k
 begins worker other = false
 
 -- a reader interval of the worker ends with the step: the token is loaded in a quiescent report, or 0
 -- is stored
 abbrev pub ends : ℕ → TraceStep → Bool
-ends worker (ByWorker k (LoadQuiescent token)) = eqb worker k
-ends worker (ByWorker k StoreOffline) = eqb worker k
+ends worker (ByWorker k (LoadQuiescent token)) = worker == k
+ends worker (ByWorker k StoreOffline) = worker == k
 ends worker other = false
 
 abbrev pub by_steps : Reporting TraceStep

@@ -1,7 +1,7 @@
 -- Meaning: the order in which the writer makes its steps (DPDK Programmer's Guide, "RCU Library": a
 -- token is started for what was given up, and a check loads one reader's counter after another; the order
 -- within an update is this project's).
-use Rattle.std.specs.Prelude.{◌≡◌, ℕ, suc, ◌/◌, ◌^◌, ◌<◌, ◌≤◌, ◌⊎◌, ⊤, Bool, true, false, cond, eqb, Option, Some, None}
+use Rattle.std.specs.Prelude.{◌≡◌, ℕ, suc, ◌/◌, ◌^◌, ◌<◌, ◌≤◌, ◌⊎◌, ⊤, Bool, true, false, if◌then◌else◌, ◌==◌, Option, Some, None}
 use Rattle.lpm_cells.specs.declared.entry.Entry.{Entry}
 use Rattle.lpm_cells.specs.declared.entry.Entry.TheVariants.{Miss, Hop, Group}
 use Rattle.lpm_cells.specs.Words.{entry_in, group_in}
@@ -47,8 +47,8 @@ taken_with taken group (Retired token) = Some group
 -- without workers that check passes at once
 abbrev pub progress_after_bump : InitialState → ℕ → WriterProgress → NextStep → WriterProgress
 progress_after_bump c token progress Bump = record progress { next_step = Nothing; reclaims = true }
-progress_after_bump c token progress Nothing = cond (eqb c.workers 0) progress
-    (record progress { next_step = Check (suc token); awaited = Some (suc token) })
+progress_after_bump c token progress Nothing =
+    if c.workers == 0 then progress else record progress { next_step = Check (suc token); awaited = Some (suc token) }
 progress_after_bump c token progress (Check t) = progress
 
 -- the check has passed
@@ -63,9 +63,9 @@ progress_after_stop progress (Some token) = record progress { next_step = Check 
 -- a counter was loaded in a check of the token
 abbrev pub progress_after_load : InitialState → WriterProgress → ℕ → ℕ → ℕ → WriterProgress
 progress_after_load c progress token worker counter =
-    cond (lets_pass token counter)
-    (cond (eqb (suc worker) c.workers) (progress_after_pass progress) (record progress { next_step = Check token }))
-    (progress_after_stop progress progress.awaited)
+    if lets_pass token counter
+    then (if suc worker == c.workers then progress_after_pass progress else record progress { next_step = Check token })
+    else progress_after_stop progress progress.awaited
 
 -- the course after a step of the writer
 abbrev pub progress_by_step : InitialState → TableState → WriterProgress → WriterStep → WriterProgress
@@ -109,7 +109,7 @@ pub record IsOldest (w : TableState) (token : ℕ) : Type 0 where
 
 -- the worker whose counter a check of the token loads next
 abbrev pub next_to_load : TableState → ℕ → ℕ
-next_to_load w token = cond (eqb w.scan.token token) w.scan.next 0
+next_to_load w token = if w.scan.token == token then w.scan.next else 0
 
 -- a check goes on; or the check of the oldest token begins, between updates or in one after an
 -- unlinking

@@ -2,7 +2,7 @@
 -- rules and the groups; and which of its steps may come next (Gupta, Lin and McKeown, INFOCOM 1998,
 -- section 3; DPDK Programmer's Guide, "LPM Library": a group is given up when its block needs none
 -- any more; "RCU Library": a token for what was given up, and a check of each reader's counter).
-use Rattle.std.specs.Prelude.{◌≡◌, ℕ, suc, ◌+◌, ◌/◌, ◌%◌, ◌^◌, ◌<◌, ◌≤◌, ◌⊎◌, ⊤, Bool, true, false, cond, ◌&&◌, leb, eqb, max, List, [], ◌∷◌, length, slice_index, Option, Some, None}
+use Rattle.std.specs.Prelude.{◌≡◌, ℕ, suc, ◌+◌, ◌/◌, ◌%◌, ◌^◌, ◌<◌, ◌≤◌, ◌⊎◌, ⊤, Bool, true, false, if◌then◌else◌, ◌&&◌, nat_le, ◌==◌, max, List, [], ◌∷◌, length, slice_index, Option, Some, None}
 use Rattle.std.specs.FinMap.{insert, remove, empty}
 use Rattle.lpm_cells.specs.declared.entry.Entry.{Entry}
 use Rattle.lpm_cells.specs.declared.entry.Entry.TheVariants.{Miss, Hop, Group}
@@ -58,7 +58,7 @@ pub record TableState : Type 0 where
 
 -- f with x at i
 abbrev pub with_at : {A : Type 0} → (ℕ → A) → ℕ → A → ℕ → A
-with_at f i x j = cond (eqb j i) x (f j)
+with_at f i x j = if j == i then x else f j
 
 -- the number of addresses
 abbrev pub addresses : InitialState → ℕ
@@ -89,7 +89,7 @@ updates_begun_in w = begun_at w.sequence
 -- and `updates_begun_in` from that store on. That it is told by which address has turned matters to no law: it is the
 -- function of which the promise says that there is one.
 abbrev pub version : TableState → ℕ → ℕ
-version w a = cond (w.answer_changed a) (updates_begun_in w) (updates_done_in w)
+version w a = if w.answer_changed a then updates_begun_in w else updates_done_in w
 
 -- the rules after a change
 abbrev pub rules_by : RuleMap → RuleChange → RuleMap
@@ -101,13 +101,13 @@ rules_by R Clear = empty
 
 abbrev pub is_same : Option ℕ → Option ℕ → Bool
 is_same None None = true
-is_same (Some x) (Some y) = eqb x y
+is_same (Some x) (Some y) = x == y
 is_same None (Some y) = false
 is_same (Some x) None = false
 
 -- which addresses have turned, when the words become z
 abbrev pub answer_changed_by : InitialState → TableState → Words → ℕ → Bool
-answer_changed_by c w z a = cond (is_same (answer c w.words a) (answer c z a)) (w.answer_changed a) true
+answer_changed_by c w z a = if is_same (answer c w.words a) (answer c z a) then w.answer_changed a else true
 
 -- a store over this first word retires its group under the next token
 abbrev pub with_retired : Entry → ℕ → (ℕ → Status) → ℕ → Status
@@ -129,7 +129,7 @@ with_linked (Group group) block groups = with_at groups group (Linked block)
 
 -- a counter lets a token pass: the worker is offline, or loaded its token since
 abbrev pub lets_pass : ℕ → ℕ → Bool
-lets_pass token counter = cond (eqb counter 0) true (leb token counter)
+lets_pass token counter = if counter == 0 then true else nat_le token counter
 
 -- the entry that stands at a place of the first table
 abbrev pub first_entry : Words → ℕ → Entry
@@ -162,8 +162,8 @@ state_by_step c w EndUpdate = record w {
 state_by_step c w BumpToken = record w { clock = suc w.clock; token = suc w.token }
 state_by_step c w (LoadCounter token worker counter) = record w {
   clock = suc w.clock;
-  scan = record { token = token; next = cond (lets_pass token counter) (suc worker) 0 };
-  passed = cond (lets_pass token counter && eqb (suc worker) c.workers) (max w.passed token) w.passed;
+  scan = record { token = token; next = if lets_pass token counter then suc worker else 0 };
+  passed = if lets_pass token counter && (suc worker == c.workers) then max w.passed token else w.passed;
 }
 
 abbrev pub initial_table_state : InitialState → TableState
@@ -188,7 +188,7 @@ state_after c (s ∷ steps) = state_by_step c (state_after c steps) s
 -- the first t of these, of which the newest stands first
 abbrev pub oldest : {A : Type 0} → ℕ → List A → List A
 oldest t [] = []
-oldest t (s ∷ steps) = cond (leb t (length steps)) (oldest t steps) (s ∷ steps)
+oldest t (s ∷ steps) = if nat_le t (length steps) then oldest t steps else s ∷ steps
 
 -- the tables after the first t of these steps of the writer
 abbrev pub state_at : InitialState → List WriterStep → ℕ → TableState

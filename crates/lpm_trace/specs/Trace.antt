@@ -1,6 +1,6 @@
 -- Meaning: traces: lists of steps, the newest first, each of which may come after those before it. A
 -- moment is the state after a number of steps (this project's).
-use Rattle.std.specs.Prelude.{◌≡◌, ℕ, ◌+◌, ◌*◌, ◌/◌, ◌%◌, ◌^◌, ◌<◌, ⊤, List, [], ◌∷◌, All, map, slice_index, Option, Some, None, suc, cond, eqb, length}
+use Rattle.std.specs.Prelude.{◌≡◌, ℕ, ◌+◌, ◌*◌, ◌/◌, ◌%◌, ◌^◌, ◌<◌, ⊤, List, [], ◌∷◌, All, map, slice_index, Option, Some, None, suc, if◌then◌else◌, ◌==◌, length}
 use Rattle.lpm_cells.specs.declared.entry.Entry.{Entry}
 use Rattle.lpm_cells.specs.declared.entry.Entry.TheVariants.{Miss, Hop, Group}
 use Rattle.lpm_cells.specs.Words.{entry_in, hop_in}
@@ -206,7 +206,7 @@ abbrev pub own_steps : ℕ → List TraceStep → List (WorkerStep × ℕ)
 own_steps k [] = []
 own_steps k (Writer s ∷ steps) = own_steps k steps
 own_steps k (ByWorker j s ∷ steps) =
-    cond (eqb k j) ((s, length (writes steps)) ∷ own_steps k steps) (own_steps k steps)
+    if k == j then (s, length (writes steps)) ∷ own_steps k steps else own_steps k steps
 
 -- what a worker's own steps leave, by their places
 abbrev pub worker_by : List (WorkerStep × ℕ) → Worker
@@ -218,4 +218,4 @@ abbrev pub worker_of : ℕ → List TraceStep → Worker
 worker_of k [] = initial_worker
 worker_of k (Writer s ∷ steps) = worker_of k steps
 worker_of k (ByWorker j s ∷ steps) =
-    cond (eqb k j) (worker_by_step (suc (length steps)) (worker_of k steps) s) (worker_of k steps)
+    if k == j then worker_by_step (suc (length steps)) (worker_of k steps) s else worker_of k steps

@@ -2,7 +2,7 @@
 -- may come next, whatever its workers do in between (DPDK Programmer's Guide, "RCU Library": the
 -- writer alone starts tokens and loads the readers' counters; the order within an update is this
 -- project's).
-use Rattle.std.specs.Prelude.{ℕ, suc, ◌+◌, cond, eqb, ◌&&◌, max, List, [], ◌∷◌, slice_index, ◌≡◌, ⊤}
+use Rattle.std.specs.Prelude.{ℕ, suc, ◌+◌, if◌then◌else◌, ◌==◌, ◌&&◌, max, List, [], ◌∷◌, slice_index, ◌≡◌, ⊤}
 use Rattle.lpm_trace.specs.declared.step.WriterStep.{WriterStep}
 use Rattle.lpm_trace.specs.declared.step.WriterStep.TheVariants.{StoreFirst, BumpToken, LoadCounter}
 use Rattle.lpm_trace.specs.States.{lets_pass, InitialState, state_after, MayWrite}
@@ -25,16 +25,16 @@ token_after start (other ∷ steps) = token_after start steps
 abbrev pub passed_after : ℕ → List WriterStep → ℕ
 passed_after workers [] = 0
 passed_after workers (LoadCounter token worker counter ∷ steps) =
-    cond (lets_pass token counter && eqb (suc worker) workers)
-    (max (passed_after workers steps) token) (passed_after workers steps)
+    if lets_pass token counter && (suc worker == workers)
+    then max (passed_after workers steps) token else passed_after workers steps
 passed_after workers (other ∷ steps) = passed_after workers steps
 
 -- the first word of a block, where these were the first words at the beginning
 abbrev pub first_word_after : List ℕ → List WriterStep → ℕ → ℕ
-first_word_after opening [] block = slice_index opening block
-first_word_after opening (StoreFirst i word ∷ steps) block =
-    cond (eqb i block) word (first_word_after opening steps block)
-first_word_after opening (other ∷ steps) block = first_word_after opening steps block
+first_word_after initial [] block = slice_index initial block
+first_word_after initial (StoreFirst i word ∷ steps) block =
+    if i == block then word else first_word_after initial steps block
+first_word_after initial (other ∷ steps) block = first_word_after initial steps block
 
 -- the writer's course after these steps of its own
 abbrev pub progress_after : InitialState → List WriterStep → WriterProgress

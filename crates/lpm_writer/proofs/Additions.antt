@@ -36,11 +36,11 @@ use Rattle.lpm_trace.specs.declared.step.RuleChange.TheVariants.{Put as Puts}
 use Rattle.lpm_trace.specs.declared.step.WriterStep.{WriterStep}
 use Rattle.lpm_trace.specs.States.{InitialState, IsChange, rules_by, state_after}
 use Rattle.lpm_writer.specs.declared.pool.GroupPool.{GroupPool}
-use Rattle.lpm_writer.specs.Waiting.{IsQueued, tokens_of}
-use Rattle.lpm_writer.specs.Matching.{GroupsMatchSteps, OnlyChecks}
-use Rattle.lpm_writer.specs.Making.{group_to_fill, IsTakenBy}
-use Rattle.lpm_writer.specs.Taking.{Finds, NeedsGroup}
-use Rattle.lpm_writer.specs.Resting.{Changes, IsResting, IsDue, state_of}
+use Rattle.lpm_writer.specs.Limbo.{IsQueued, tokens_of}
+use Rattle.lpm_writer.specs.GroupsMatch.{GroupsMatchSteps, OnlyChecks}
+use Rattle.lpm_writer.specs.GroupToFill.{group_to_fill, IsTakenBy}
+use Rattle.lpm_writer.specs.Take.{Finds, NeedsGroup}
+use Rattle.lpm_writer.specs.Rest.{Changes, IsResting, IsDue, state_of}
 use Rattle.lpm_writer.proofs.NextStores.{none_some}
 use Rattle.lpm_writer.proofs.StepsAlone.{StoresNothing}
 use Rattle.lpm_writer.proofs.Rests.{linked_resting, none_fills, some_fills}

@@ -14,8 +14,8 @@ use Rattle.lpm_trace.specs.Progress.{WriterProgress, Check, progress_after_bump,
 use Rattle.lpm_trace.specs.Writer.{progress_after, IsWritten, MayStep}
 use Rattle.lpm_writer.specs.declared.pool.GroupPool.{GroupPool}
 use Rattle.lpm_writer.specs.Traced.{Checks}
-use Rattle.lpm_writer.specs.Matching.{AreRetired, HasNothingDue, MayLoadCounters, Remembers}
-use Rattle.lpm_writer.specs.Resting.{IsBetween, IsResting}
+use Rattle.lpm_writer.specs.GroupsMatch.{AreRetired, HasNothingDue, MayLoadCounters, Remembers}
+use Rattle.lpm_writer.specs.Rest.{IsBetween, IsResting}
 use Rattle.lpm_writer.specs.Commands.{IsAwaited, IsWaiting}
 use Rattle.lpm_writer.proofs.Checks.{HasPassed, quiet_on, check_passes, check_stops}
 use Rattle.lpm_writer.proofs.Reclaims.{kept_quiet}

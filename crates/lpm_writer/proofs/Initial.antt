@@ -18,7 +18,7 @@ use Rattle.lpm_update.specs.Represents.{Represents}
 use Rattle.lpm_update.specs.Tied.{IsTied, HasGroupRoom}
 use Rattle.lpm_update.proofs.Promises.{best_hop, blank}
 use Rattle.lpm_trace.specs.States.{InitialState, Status, Unused, Linked as LinkedTo, Retired, IsFree, IsSettled}
-use Rattle.lpm_writer.specs.Resting.{IsResting, blank_state}
+use Rattle.lpm_writer.specs.Rest.{IsResting, blank_state}
 use Rattle.std.specs.FinMap.{empty}
 use Rattle.lpm_groups.proofs.Marking.{limbo_count-replicate}
 use Rattle.lpm_update.specs.Laws.{blank_words}

@@ -7,8 +7,8 @@ use Rattle.lpm_groups.specs.declared.GroupState.TheVariants.{Linked, Free, Limbo
 use Rattle.lpm_groups.specs.States.{IsLeastFree, IsLinkedTo, IsLimboAt, IsFreeAt, is_free, is_linked, free_count, linked_count}
 use Rattle.lpm_groups.proofs.Marking.{slice_get-set_other, slice_get-set_same, Releases-set, Retires-set, Takes-set, counts-total, count_by-some}
 use Rattle.lpm_update.specs.Tied.{SameLinksBut}
-use Rattle.lpm_writer.specs.Waiting.{IsFreed, AreWaiting, IsQueued, IsTaken, tokens_of}
-use Rattle.lpm_writer.specs.Taking.{LinksLeast, MayTake}
+use Rattle.lpm_writer.specs.Limbo.{IsFreed, AreWaiting, IsQueued, IsTaken, tokens_of}
+use Rattle.lpm_writer.specs.Take.{LinksLeast, MayTake}
 use Rattle.std.proofs.Math.ListN.{length-set}
 use Rattle.std.proofs.lemmas.Option.{same_Some, slice_get_within}
 use Rattle.defer_queue.specs.Retired.{IsAbsent}
@@ -21,7 +21,7 @@ use Rattle.fib_model.specs.State.{Transitions, Reclaims, MakesRoom}
 use Rattle.lpm_trace.specs.declared.step.WriterStep.{WriterStep}
 use Rattle.lpm_trace.specs.States.{InitialState}
 use Rattle.lpm_writer.specs.declared.pool.GroupPool.{GroupPool}
-use Rattle.lpm_writer.specs.Matching.{GroupsMatchSteps, MayReclaim}
+use Rattle.lpm_writer.specs.GroupsMatch.{GroupsMatchSteps, MayReclaim}
 use Rattle.defer_queue.specs.Reclaims as queue
 
 -- The least free group is taken, by the states of the groups.

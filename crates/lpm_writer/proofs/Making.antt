@@ -17,11 +17,11 @@ use Rattle.lpm_trace.specs.States.{InitialState, state_after, addresses, answer,
 use Rattle.lpm_trace.specs.Writer.{progress_after, MayStep}
 use Rattle.lpm_writer.specs.declared.pool.GroupPool.{GroupPool}
 use Rattle.fib_model.specs.State.{Unlinks}
-use Rattle.lpm_writer.specs.Waiting.{tokens_of}
+use Rattle.lpm_writer.specs.Limbo.{tokens_of}
 use Rattle.lpm_writer.specs.Traced.{WithSteps, Stores, by_writer}
-use Rattle.lpm_writer.specs.Matching.{HasNothingDue, GroupsMatchSteps}
+use Rattle.lpm_writer.specs.GroupsMatch.{HasNothingDue, GroupsMatchSteps}
 use Rattle.lpm_writer.specs.Steps.{since_opened, StoresOnce}
-use Rattle.lpm_writer.specs.Making.{group_to_fill, IsTakenBy, HasWidths}
+use Rattle.lpm_writer.specs.GroupToFill.{group_to_fill, IsTakenBy, HasWidths}
 
 -- the answer that an address has after the change u of the words t
 abbrev pub answer_after : InitialState → Plan → Words → ℕ → Option ℕ

@@ -16,7 +16,7 @@ use Rattle.lpm_update.proofs.Groups.{last_none, here_is, there_is}
 use Rattle.lpm_update.proofs.Places.{word_entry}
 use Rattle.lpm_update.proofs.Unlinks.{some_group, unlink_word}
 use Rattle.lpm_update.proofs.Onward.{by_kind}
-use Rattle.lpm_writer.specs.Making.{group_to_fill, unless_linked, IsTakenBy}
+use Rattle.lpm_writer.specs.GroupToFill.{group_to_fill, unless_linked, IsTakenBy}
 use Rattle.lpm_groups.specs.declared.GroupState.{GroupState}
 use Rattle.lpm_update.specs.Laws.{StoreMoves, HasCome}
 use Rattle.lpm_update.specs.Tied.{IsTied}
@@ -26,7 +26,7 @@ use Rattle.lpm_trace.specs.declared.step.WriterStep.TheVariants.{StoreFirst, Sto
 use Rattle.lpm_trace.specs.States.{InitialState, TableState, Status, Unused, Linked, Retired, state_after, addresses, answer, IsAnswer, updates_done_in, updates_begun_in, is_same, answer_changed_by, IsFree, MayFill, MayLink, Moves}
 use Rattle.lpm_trace.specs.Progress.{WriterProgress, FillsOwn, LinksOwn, HasLinkedOwn}
 use Rattle.lpm_trace.specs.Writer.{progress_after, MayStep}
-use Rattle.lpm_writer.specs.Matching.{GroupsMatchSteps, HasNothingDue}
+use Rattle.lpm_writer.specs.GroupsMatch.{GroupsMatchSteps, HasNothingDue}
 use Rattle.lpm_writer.proofs.Making.{IsMaking, answer_after}
 
 none_last : (e : Entry) → group_in e ≡ None → IsLast e

@@ -8,9 +8,9 @@ use Rattle.lpm_trace.specs.States.{InitialState, state_after, TableState, Status
 use Rattle.lpm_trace.specs.Progress.{WriterProgress, Nothing, progress_after_bump, IsBumped as MayBump, IsOldest, IsLoadDue}
 use Rattle.lpm_trace.specs.Writer.{progress_after, MayStep}
 use Rattle.lpm_writer.specs.declared.pool.GroupPool.{GroupPool}
-use Rattle.lpm_writer.specs.Waiting.{AreWaiting, tokens_of}
+use Rattle.lpm_writer.specs.Limbo.{AreWaiting, tokens_of}
 use Rattle.lpm_writer.specs.Commands.{ChecksBy, MayFree}
-use Rattle.lpm_writer.specs.Matching.{OnlyChecks, GroupsMatchSteps, MayReclaim, AreAfter, AreRetired, AreBelow, IsAmong, GroupsMatchState, IsLimbo, MayLoadCounters, Remembers}
+use Rattle.lpm_writer.specs.GroupsMatch.{OnlyChecks, GroupsMatchSteps, MayReclaim, AreAfter, AreRetired, AreBelow, IsAmong, GroupsMatchState, IsLimbo, MayLoadCounters, Remembers}
 use Rattle.lpm_writer.proofs.GivenUp.{HasUnlinked, HasRetired}
 use Rattle.lpm_writer.proofs.LimboItems.{free_linked, freed_states, waiting_set}
 use Rattle.lpm_writer.proofs.Checks.{quiet_on, HasPassed, HasStopped, quiet_same, check_passes, check_stops}

@@ -23,13 +23,13 @@ use Rattle.lpm_trace.specs.declared.step.WriterStep.TheVariants.{BeginUpdate, En
 use Rattle.lpm_trace.specs.States.{InitialState, TableState, state_after, answer, IsAnswer, IsChange, updates_done_in, done_at, rules_by}
 use Rattle.lpm_trace.specs.Writer.{MayStep}
 use Rattle.lpm_writer.specs.declared.pool.GroupPool.{GroupPool}
-use Rattle.lpm_writer.specs.Waiting.{IsFreed, IsQueued, tokens_of}
+use Rattle.lpm_writer.specs.Limbo.{IsFreed, IsQueued, tokens_of}
 use Rattle.lpm_writer.specs.Traced.{by_writer}
-use Rattle.lpm_writer.specs.Matching.{HasNothingDue, SameTables, OnlyChecks, GroupsMatchSteps}
+use Rattle.lpm_writer.specs.GroupsMatch.{HasNothingDue, SameTables, OnlyChecks, GroupsMatchSteps}
 use Rattle.lpm_writer.specs.Steps.{StoresOnce}
-use Rattle.lpm_writer.specs.Taking.{MayTake}
-use Rattle.lpm_writer.specs.Making.{group_to_fill, unless_linked, IsTakenBy}
-use Rattle.lpm_writer.specs.Resting.{IsBetween, Changes, IsResting, IsDue, state_of}
+use Rattle.lpm_writer.specs.Take.{MayTake}
+use Rattle.lpm_writer.specs.GroupToFill.{group_to_fill, unless_linked, IsTakenBy}
+use Rattle.lpm_writer.specs.Rest.{IsBetween, Changes, IsResting, IsDue, state_of}
 use Rattle.lpm_writer.proofs.UpdateRuns.{AsMemory, fit}
 use Rattle.lpm_writer.proofs.Checks.{quiet_same}
 use Rattle.lpm_writer.proofs.StepsAlone.{StoresNothing}

@@ -24,7 +24,7 @@ use Rattle.lpm_trace.specs.States.{InitialState, TableState, state_after}
 use Rattle.fib_model.specs.State.{Reclaims, MakesRoom, State}
 use Rattle.lpm_writer.specs.declared.pool.GroupPool.{GroupPool}
 use Rattle.lpm_writer.specs.Traced.{WithSteps, Loads, LoadsUntilStopped, Checks, by_writer, Goes, UnlinksNone, Stores, StoresOverLink, StoresAndCloses, state_of_traced}
-use Rattle.lpm_writer.specs.Taking.{Takes, Finds}
+use Rattle.lpm_writer.specs.Take.{Takes, Finds}
 use Rattle.lpm_writer.specs.Steps.{StoreSameWord, since_opened, StoresOnce, IsStore, AreStopped, by_steps_from}
 use Rattle.lpm_writer.proofs.GivenUp.{Retires}
 use Rattle.lpm_writer.proofs.Making.{HasPassedStore, HasPassedStores, stored_by}

@@ -35,10 +35,10 @@ use Rattle.lpm_trace.specs.Progress.{HasLinkedOwn, next_after_store, taken_with}
 use Rattle.lpm_trace.specs.Writer.{progress_after}
 use Rattle.lpm_trace.proofs.Versions.{with_at-same, with_at-other}
 use Rattle.lpm_writer.specs.declared.pool.GroupPool.{GroupPool}
-use Rattle.lpm_writer.specs.Waiting.{AreWaiting}
-use Rattle.lpm_writer.specs.Matching.{AreAfter, AreRising, AreRetired, AreBelow, IsAmong, GroupsMatchState, HasNothingDue, SameTables, GroupsMatchSteps}
+use Rattle.lpm_writer.specs.Limbo.{AreWaiting}
+use Rattle.lpm_writer.specs.GroupsMatch.{AreAfter, AreRising, AreRetired, AreBelow, IsAmong, GroupsMatchState, HasNothingDue, SameTables, GroupsMatchSteps}
 use Rattle.lpm_writer.specs.Steps.{since_opened}
-use Rattle.lpm_writer.specs.Making.{group_to_fill, unless_linked, IsTakenBy}
+use Rattle.lpm_writer.specs.GroupToFill.{group_to_fill, unless_linked, IsTakenBy}
 use Rattle.lpm_writer.proofs.GivenUp.{HasUnlinked}
 use Rattle.lpm_writer.proofs.LimboItems.{absent_other, free_limbo, free_linked, linked_limbo}
 use Rattle.lpm_writer.proofs.Reclaims.{kept_quiet, linked_not_retired}

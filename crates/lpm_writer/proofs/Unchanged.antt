@@ -24,7 +24,7 @@ use Rattle.lpm_trace.specs.States.{InitialState, TableState, state_after, answer
 use Rattle.lpm_trace.specs.Writer.{MayStep, IsWritten}
 use Rattle.lpm_trace.proofs.Versions.{with_at-same}
 use Rattle.lpm_writer.specs.declared.pool.GroupPool.{GroupPool}
-use Rattle.lpm_writer.specs.Resting.{IsResting}
+use Rattle.lpm_writer.specs.Rest.{IsResting}
 use Rattle.lpm_writer.proofs.Reclaims.{kept_quiet}
 use Rattle.lpm_writer.proofs.UpdateRuns.{fit}
 use Rattle.lpm_writer.proofs.WholeUpdates.{even_begun, even_same}

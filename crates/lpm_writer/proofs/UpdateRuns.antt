@@ -23,10 +23,10 @@ use Rattle.lpm_update.proofs.Runs.{run_goes_on, next_store, next_first}
 use Rattle.lpm_trace.specs.Progress.{Nothing, next_after_store}
 use Rattle.lpm_writer.specs.declared.pool.GroupPool.{GroupPool}
 use Rattle.fib_model.specs.State.{Unlinks}
-use Rattle.lpm_writer.specs.Waiting.{AreWaiting, tokens_of}
+use Rattle.lpm_writer.specs.Limbo.{AreWaiting, tokens_of}
 use Rattle.lpm_writer.specs.Traced.{WithSteps, UnlinksNone, by_writer}
-use Rattle.lpm_writer.specs.Matching.{HasNothingDue, GroupsMatchSteps}
-use Rattle.lpm_writer.specs.Making.{group_to_fill, HasWidths}
+use Rattle.lpm_writer.specs.GroupsMatch.{HasNothingDue, GroupsMatchSteps}
+use Rattle.lpm_writer.specs.GroupToFill.{group_to_fill, HasWidths}
 use Rattle.lpm_writer.proofs.GivenUp.{HasUnlinked, HasRetired, Retires}
 use Rattle.lpm_writer.proofs.StepsAlone.{store_first, store_unlink, store_second, after_retire}
 use Rattle.lpm_writer.proofs.NextStores.{filling_same, first_kind, unlink_kind, may_store_first, may_store_second, may_unlink, may_close}

@@ -15,9 +15,9 @@ use Rattle.lpm_trace.specs.Writer.{MayStep}
 use Rattle.lpm_trace.proofs.Versions.{with_at-same, with_at-other}
 use Rattle.lpm_writer.specs.declared.pool.GroupPool.{GroupPool}
 use Rattle.lpm_writer.specs.Traced.{by_writer}
-use Rattle.lpm_writer.specs.Matching.{GroupsMatchSteps}
-use Rattle.lpm_writer.specs.Making.{HasWidths, IsTakenBy, group_to_fill}
-use Rattle.lpm_writer.specs.Resting.{IsBetween, Changes}
+use Rattle.lpm_writer.specs.GroupsMatch.{GroupsMatchSteps}
+use Rattle.lpm_writer.specs.GroupToFill.{HasWidths, IsTakenBy, group_to_fill}
+use Rattle.lpm_writer.specs.Rest.{IsBetween, Changes}
 use Rattle.lpm_writer.proofs.Reclaims.{kept_quiet}
 use Rattle.lpm_writer.proofs.Making.{HasPassedStore, answer_after, MayMake, HasMade}
 

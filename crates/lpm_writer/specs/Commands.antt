@@ -5,7 +5,7 @@ use Rattle.lpm_trace.specs.States.{InitialState, state_after}
 use Rattle.fib_model.specs.State.{State}
 use Rattle.lpm_writer.specs.declared.control.ControlState.{ControlState}
 use Rattle.lpm_writer.specs.Traced.{WithSteps, Checks}
-use Rattle.lpm_writer.specs.Resting.{IsResting, state_of}
+use Rattle.lpm_writer.specs.Rest.{IsResting, state_of}
 use Rattle.lpm_groups.specs.declared.GroupState.{GroupState}
 use Rattle.lpm_limits.specs.declared.busy.Busy.{Busy}
 use Rattle.lpm_limits.specs.declared.config.Config.{Config}
@@ -13,9 +13,9 @@ use Rattle.lpm_rules.specs.RuleMap.{RuleList}
 use Rattle.lpm_trace.specs.Progress.{Check, next_to_load}
 use Rattle.lpm_trace.specs.Writer.{progress_after}
 use Rattle.lpm_writer.specs.declared.pool.GroupPool.{GroupPool}
-use Rattle.lpm_writer.specs.Matching.{HasNothingDue, SameTables, GroupsMatchSteps, MayLoadCounters, MayReclaim, OnlyChecks, Remembers}
+use Rattle.lpm_writer.specs.GroupsMatch.{HasNothingDue, SameTables, GroupsMatchSteps, MayLoadCounters, MayReclaim, OnlyChecks, Remembers}
 use Rattle.lpm_writer.specs.Steps.{StoresOnce}
-use Rattle.lpm_writer.specs.Waiting.{tokens_of}
+use Rattle.lpm_writer.specs.Limbo.{tokens_of}
 
 -- the writer rests with this control state
 abbrev pub Rests : {first second : ℕ} → InitialState → List WriterStep → ControlState first second → Type 0
@@ -49,9 +49,9 @@ pub record IsAwaited (c : InitialState) (steps : List WriterStep) : Type 0 where
 -- The control state rested after some steps. After these a token was started besides, and no check of it has
 -- passed; all else is as it was.
 pub record IsWaiting (first second : ℕ) (c : InitialState) (steps : List WriterStep) (config : Config)
-    (rules : RuleList) (pool : GroupPool) (begun : ℕ) : Type 0 where
+    (rules : RuleList) (pool : GroupPool) (updates_begun : ℕ) : Type 0 where
   pub older : List WriterStep
-  pub rested : IsResting first second c older config rules pool begun
+  pub rested : IsResting first second c older config rules pool updates_begun
   pub quiet : SameTables (state_after c older) (state_after c steps)
   pub started : (state_after c steps).token ≡ suc (state_after c older).token
   pub passed : (state_after c steps).passed ≡ (state_after c older).passed

@@ -1,10 +1,10 @@
-pub mod Waiting
+pub mod Limbo
 pub mod Traced
-pub mod Matching
+pub mod GroupsMatch
 pub mod Steps
-pub mod Making
-pub mod Taking
+pub mod GroupToFill
+pub mod Take
 pub mod Commands
-pub mod Resting
+pub mod Rest
 pub mod Plain
 pub mod PlainLaws

@@ -9,7 +9,7 @@ use Rattle.lpm_trace.specs.declared.step.WriterStep.TheVariants.{StoreFirst, Sto
 
 -- Which step the writer of a memory may make next (this project's).
 
--- from some opening, after some list of the writer's steps that may have led to the memory, the step
+-- from some initial state, after some list of the writer's steps that may have led to the memory, the step
 -- may come next
 abbrev pub MayBeNext : {M : Type 0} → (M → InitialState → List WriterStep → Type 0) → M → WriterStep → Type 0
 MayBeNext did m s = (c : InitialState) × (steps : List WriterStep) × did m c steps × MayStep c steps s

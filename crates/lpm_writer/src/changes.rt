@@ -4,7 +4,7 @@ ghost use Rattle.std.specs.Prelude.{◌≡◌, ◌+◌, List};
 ghost use Rattle.lpm_groups.specs.States.{linked_count};
 ghost use Rattle.lpm_trace.specs.declared.step.WriterStep.{WriterStep};
 ghost use Rattle.lpm_trace.specs.States.{InitialState};
-ghost use Rattle.lpm_writer.specs.Resting.{Changes, IsDue};
+ghost use Rattle.lpm_writer.specs.Rest.{Changes, IsDue};
 ghost use Rattle.lpm_writer.specs.Commands.{Rests};
 ghost use Rattle.lpm_writer.specs.Traced.{by_writer};
 

@@ -5,7 +5,7 @@ ghost use Rattle.std.specs.Prelude.{◌≡◌, ◌<◌, ◌≤◌, List, OnOk, O
 ghost use Rattle.lpm_trace.specs.declared.step.WriterStep.{WriterStep};
 ghost use Rattle.lpm_trace.specs.States.{InitialState};
 ghost use Rattle.lpm_writer.specs.Commands.{ChecksBy};
-ghost use Rattle.lpm_writer.specs.Matching.{MayLoadCounters};
+ghost use Rattle.lpm_writer.specs.GroupsMatch.{MayLoadCounters};
 
 use crate::Memory;
 use defer_queue::Grace;
@@ -25,7 +25,7 @@ impl<M: Memory> Grace for Reclaimer<'_, M> {
     ghost use Rattle.std.specs.Prelude.{◌≡◌, ⊤, [], ◌∷◌, slice_set};
     ghost use Rattle.lpm_groups.specs.declared.GroupState.TheVariants.{Free};
     ghost use Rattle.lpm_groups.specs.States.{IsLimboAt};
-    ghost use Rattle.lpm_writer.specs.Waiting.{AreWaiting};
+    ghost use Rattle.lpm_writer.specs.Limbo.{AreWaiting};
     ghost use Rattle.lpm_writer.specs.Commands.{ChecksBy, MayFree};
 
     ghost lent = { λ s. s.memory.ghost_name ∷ s.groups.ghost_name ∷ s.passed.ghost_name ∷ [] };

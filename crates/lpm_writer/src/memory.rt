@@ -16,15 +16,15 @@ use lpm_trace::RuleChange;
 
 /// The memory of a table, as its writer uses it.
 ///
-/// A memory doesn't hold the list of the writer's steps. An implementation says by `did` from what
-/// opening and by which steps, the newest first, it may have come to what it is, and by `does` what one
+/// A memory doesn't hold the list of the writer's steps. An implementation says by `did` from what initial
+/// state and by which steps, the newest first, it may have come to what it is, and by `does` what one
 /// more step leads to.
 pub trait Memory: Cells {
     ghost worker_count: { Self → ℕ };
 
     ghost newest: { Self → ℕ };
 
-    // from this opening the writer's steps so far may be these
+    // from this initial state the writer's steps so far may be these
     ghost did: { Self → InitialState → List WriterStep → Type 0 };
 
     // the step leads to the second memory

@@ -1,11 +1,11 @@
 //! A module for each crate or way of failing, and what they share.
 
-mod asserting;
+mod asserts;
 mod audits;
 mod cases;
 mod command_lines;
-mod explaining;
-mod failing;
+mod explain;
+mod failures;
 mod fakes;
 mod files;
 mod known;

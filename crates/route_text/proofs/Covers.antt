@@ -1,7 +1,7 @@
 -- The lines of the rules behind the one that answers.
 use Rattle.std.proofs.Common.{◌≡◌, refl, List, [], ◌∷◌, ◌++◌}
 use Rattle.lpm_rules.specs.declared.Rule.{Rule}
-use Rattle.route_text.specs.Explaining.{cover_line, cover_lines}
+use Rattle.route_text.specs.Explanation.{cover_line, cover_lines}
 
 pub next_cover : (r : Rule 24 8) (rs : List (Rule 24 8)) → cover_lines (r ∷ rs) ≡ cover_line r ++ cover_lines rs
 unfolding cover_lines

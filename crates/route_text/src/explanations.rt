@@ -1,8 +1,8 @@
 //! The text that explains an answer.
 ghost use Rattle.std.specs.Prelude.{◌≡◌, ◌<◌, ◌++◌, OnOk};
-ghost use Rattle.route_text.specs.Explaining.{hex_digit, hex_byte, word_text, word_line};
-ghost use Rattle.route_text.specs.Explaining.{second_lines, reading_lines, cover_line, cover_lines};
-ghost use Rattle.route_text.specs.Explaining.{rule_lines, explanation_lines};
+ghost use Rattle.route_text.specs.Explanation.{hex_digit, hex_byte, word_text, word_line};
+ghost use Rattle.route_text.specs.Explanation.{second_lines, reading_lines, cover_line, cover_lines};
+ghost use Rattle.route_text.specs.Explanation.{rule_lines, explanation_lines};
 
 use crate::pieces::{put_named, put_octets, put_prefix};
 use lpm_rules::Rule;

@@ -1,9 +1,9 @@
 //! A module for each way in which a running table is tried, and for the facade.
 
-mod asserting;
+mod asserts;
 mod beside;
 mod cases;
-mod changing;
+mod changes;
 mod facade;
 mod groups;
 mod large;

@@ -6,7 +6,7 @@ use Rattle.lpm_limits.specs.declared.refusal.Refusal.{Refusal}
 use Rattle.lpm_limits.specs.declared.refusal.Refusal.TheVariants.{NoSuchWorker, Taken}
 use Rattle.lpm_rules.specs.RuleMap.{RuleMap}
 use Rattle.shared_fib.specs.Passes.{PassState, IsPassOf, IsFullBench, IsBenchOf, IsPutBack}
-use Rattle.shared_fib.specs.Running.{Identity, WriterState, initial_writer}
+use Rattle.shared_fib.specs.RunningTable.{Identity, WriterState, initial_writer}
 use Rattle.shared_fib.proofs.Seated.{on_err_then}
 use Rattle.saxiko.specs.Owners.{OwnerState, Registers}
 

@@ -6,7 +6,7 @@ use Rattle.std.specs.Coded.{Coded, code_by, coded×, coded_list, coded_option}
 use Rattle.lpm_limits.specs.declared.refusal.Refusal.{Refusal}
 use Rattle.lpm_limits.specs.declared.refusal.Refusal.TheVariants.{NoSuchWorker, Taken}
 use Rattle.shared_fib.specs.Passes.{PassState, IsPassOf, IsBenchOf, coded_pass}
-use Rattle.shared_fib.specs.Running.{WriterState, coded_writer}
+use Rattle.shared_fib.specs.RunningTable.{WriterState, coded_writer}
 
 -- its writer, and the passes that no reader has, by their numbers
 pub record OwnerState : Type 0 where

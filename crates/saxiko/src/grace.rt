@@ -6,7 +6,7 @@ ghost use Rattle.lpm_trace.specs.declared.step.WriterStep.TheVariants.{BumpToken
 ghost use Rattle.lpm_trace.specs.Laws.{IsChecked};
 ghost use Rattle.lpm_writer.specs.Steps.{Checks};
 ghost use Rattle.shared_fib.specs.Passes.{IsBenchOf, IsPutBack};
-ghost use Rattle.shared_fib.specs.Running.{passed_of, steps_of, token_of};
+ghost use Rattle.shared_fib.specs.RunningTable.{passed_of, steps_of, token_of};
 ghost use Rattle.saxiko.specs.Owners.{Registers};
 
 use crate::reader::reader_of_worker;

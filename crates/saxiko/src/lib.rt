@@ -7,7 +7,7 @@
 #![tactic(auto)]
 
 mod grace;
-mod loading;
+mod load;
 mod owner;
 mod reader;
 

@@ -11,12 +11,12 @@ ghost use Rattle.lpm_rules.specs.Longest.{IsMatch};
 ghost use Rattle.lpm_rules.specs.RuleMap.{IsNextRule};
 ghost use Rattle.lpm_trace.specs.declared.step.WorkerStep.TheVariants.{MeetWriter};
 ghost use Rattle.lpm_trace.specs.Laws.{IsChecked};
-ghost use Rattle.lpm_writer.specs.Resting.{blank_state};
+ghost use Rattle.lpm_writer.specs.Rest.{blank_state};
 ghost use Rattle.lpm_writer.specs.Steps.{Synchronizes};
-ghost use Rattle.shared_fib.specs.Freeing.{TakesLeast, FreesChecked};
+ghost use Rattle.shared_fib.specs.Freed.{TakesLeast, FreesChecked};
 ghost use Rattle.shared_words.specs.Rule.{IsLater};
 ghost use Rattle.shared_fib.specs.Passes.{IsBenchOf, IsFullBench, IsPutBack, Makes};
-ghost use Rattle.shared_fib.specs.Running.{IsAtRest, by_steps, initial_writer, passed_of, initial_state, steps_of, token_of};
+ghost use Rattle.shared_fib.specs.RunningTable.{IsAtRest, by_steps, initial_writer, passed_of, initial_state, steps_of, token_of};
 ghost use Rattle.saxiko.specs.Owners.{Registers};
 
 use crate::Reader;
@@ -321,7 +321,7 @@ impl Owner {
         self.writer.versions()
     }
 
-    /// The token number: that of the opening and, for each group that was given up and each grace period,
+    /// The token number: that of the initial state and, for each group that was given up and each grace period,
     /// one more.
     pub fn token(&mut self) -> u64
         ensures same { self.new ≡ self.old }

@@ -5,7 +5,7 @@ ghost use Rattle.std.specs.Arc.{arc_value};
 ghost use Rattle.lpm_trace.specs.declared.step.WorkerStep.TheVariants.{LoadOnline, StoreOnline, LoadQuiescent, StoreQuiescent, StoreOffline};
 ghost use Rattle.shared_fib.specs.Bursts.{LooksUpBurst};
 ghost use Rattle.shared_fib.specs.Passes.{IsBenchOf, IsHistory, IsPassOf, LooksUp, LooksUpAll, Makes};
-ghost use Rattle.shared_fib.specs.Running.{hop_or};
+ghost use Rattle.shared_fib.specs.RunningTable.{hop_or};
 
 use lpm_limits::Refusal;
 use lpm_rules::Answer;

@@ -4,9 +4,9 @@ use Rattle.std.specs.Prelude.{slice_get, min, max}
 use Rattle.std.proofs.lemmas.List.{set-set, set-get_or, take_all}
 use Rattle.std.proofs.lemmas.Option.{unwrap_or-slice_get}
 use Rattle.shared_fib.specs.Passes.{PassState, LooksUpAll}
-use Rattle.saxiko_c.specs.Running.{OwnerState, FindsEach}
+use Rattle.saxiko_c.specs.RunningTable.{OwnerState, FindsEach}
 use Rattle.shared_fib.specs.Bursts.{LooksUpBurst, Piece}
-use Rattle.shared_fib.specs.Running.{hop_or}
+use Rattle.shared_fib.specs.RunningTable.{hop_or}
 use Rattle.shared_fib.proofs.Lookups.{burst_after}
 use Rattle.saxiko_c.specs.declared.records.SaxikoSpan.{SaxikoSpan}
 

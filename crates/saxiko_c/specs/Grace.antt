@@ -6,8 +6,8 @@ use Rattle.lpm_limits.specs.declared.busy.Busy.{Busy}
 use Rattle.lpm_trace.specs.declared.step.WriterStep.TheVariants.{BumpToken}
 use Rattle.lpm_trace.specs.Laws.{IsChecked as WasChecked}
 use Rattle.lpm_writer.specs.Steps.{Checks}
-use Rattle.shared_fib.specs.Running.{passed_of, steps_of, token_of}
-use Rattle.saxiko_c.specs.Running.{OwnerState, Names}
+use Rattle.shared_fib.specs.RunningTable.{passed_of, steps_of, token_of}
+use Rattle.saxiko_c.specs.RunningTable.{OwnerState, Names}
 use Rattle.saxiko_c.specs.Status.{success, again, already, not_permitted, overflow}
 use Rattle.saxiko_c.specs.declared.records.SaxikoHeld.{SaxikoHeld}
 

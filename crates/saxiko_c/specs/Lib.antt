@@ -1,8 +1,8 @@
 pub mod Grace
-pub mod Inserting
+pub mod Insert
 pub mod Loads
 pub mod Owned
-pub mod Running
+pub mod RunningTable
 pub mod Stages
 pub mod Status
 pub mod Table

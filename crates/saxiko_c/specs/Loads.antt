@@ -13,8 +13,8 @@ use Rattle.saxiko_c.specs.Status.{OpensIt, no_memory, invalid, no_space, too_big
 use Rattle.saxiko_c.specs.Table.{IsBad}
 use Rattle.saxiko_c.specs.declared.records.SaxikoRoute.{SaxikoRoute}
 use Rattle.shared_fib.specs.Passes.{IsFullBench}
-use Rattle.shared_fib.specs.Running.{initial_writer}
-use Rattle.saxiko_c.specs.Running.{OwnerState}
+use Rattle.shared_fib.specs.RunningTable.{initial_writer}
+use Rattle.saxiko_c.specs.RunningTable.{OwnerState}
 
 -- the rule that a route gives
 abbrev pub rule_of : SaxikoRoute → Rule 24 8

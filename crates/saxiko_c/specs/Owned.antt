@@ -13,7 +13,7 @@ use Rattle.fib.specs.Fib.{FibState, coded_fib_state}
 use Rattle.fib.specs.contracts.fib.Fib as fib
 use Rattle.shared_fib.specs.Passes.{PassState, coded_pass}
 use Rattle.saxiko.specs.contracts.reader.Reader as reader
-use Rattle.saxiko_c.specs.Running.{OwnerState, coded_owner}
+use Rattle.saxiko_c.specs.RunningTable.{OwnerState, coded_owner}
 use Rattle.saxiko_c.specs.contracts.owner.Owner as owner
 
 abbrev pub table_row : RattleType

@@ -3,7 +3,7 @@ use Rattle.std.specs.Prelude.{Bool, true, false, [], ⊤}
 use Rattle.std.specs.FinMap.{empty}
 use Rattle.lpm_limits.specs.Limits.{default_config}
 use Rattle.saxiko.specs.Owners.{OwnerState as Owned}
-use Rattle.shared_fib.specs.Running.{Identity, initial_writer}
+use Rattle.shared_fib.specs.RunningTable.{Identity, initial_writer}
 use Rattle.saxiko_c.specs.declared.stage.Stage.{Stage}
 use Rattle.saxiko_c.specs.declared.stage.Stage.TheVariants.{AtRest, Waiting, Moving}
 

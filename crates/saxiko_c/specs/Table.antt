@@ -10,7 +10,7 @@ use Rattle.lpm_limits.specs.Limits.{IsConfig}
 use Rattle.lpm_limits.specs.declared.config.Config.{Config}
 use Rattle.lpm_limits.specs.declared.refusal.Refusal.{Refusal}
 use Rattle.defer_queue.specs.declared.Reclaimed.{Reclaimed}
-use Rattle.fib_model.specs.Counting.{counter_transitions}
+use Rattle.fib_model.specs.Counters.{counter_transitions}
 use Rattle.fib_model.specs.Outcomes.{groups_in_use, Adds, Deletes, Flushes, Frees}
 use Rattle.fib.specs.Fib.{FibState, initial_fib, IsHopOrDefault}
 use Rattle.saxiko_c.specs.Status.{OpensIt, success, no_entry, no_memory, invalid, add_status, status_of}

@@ -3,12 +3,12 @@
 ghost use Rattle.std.specs.Prelude.{◌≡◌, ◌+◌, ◌≤◌, ◌<◌, ◌++◌, ℕ, List, Option, length, map, take, drop, true};
 ghost use Rattle.shared_fib.specs.Bursts.{Piece};
 ghost use Rattle.shared_fib.specs.Passes.{LooksUpAll};
-ghost use Rattle.shared_fib.specs.Running.{hop_or};
-ghost use Rattle.saxiko_c.specs.Running.{FindsEach};
+ghost use Rattle.shared_fib.specs.RunningTable.{hop_or};
+ghost use Rattle.saxiko_c.specs.RunningTable.{FindsEach};
 ghost use Rattle.saxiko_c.specs.declared.records.SaxikoSpan.{SaxikoSpan as Span};
 
 use crate::records::SaxikoSpan;
-use crate::running::number_or;
+use crate::running_table::number_or;
 use saxiko::Reader;
 
 /// The four addresses at this place.

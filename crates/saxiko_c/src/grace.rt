@@ -4,7 +4,7 @@ ghost use Rattle.std.specs.Prelude.{◌≡◌, ◌+◌, ◌^◌, ◌<◌, ◌≤
 ghost use Rattle.lpm_trace.specs.declared.step.WriterStep.TheVariants.{BumpToken};
 ghost use Rattle.lpm_trace.specs.Laws.{IsChecked};
 ghost use Rattle.lpm_writer.specs.Steps.{Checks};
-ghost use Rattle.shared_fib.specs.Running.{passed_of, steps_of, token_of};
+ghost use Rattle.shared_fib.specs.RunningTable.{passed_of, steps_of, token_of};
 ghost use Rattle.saxiko_c.specs.Grace.{ChecksOnce, Starts};
 ghost use Rattle.saxiko_c.specs.Stages.{IsSettled, waits_in};
 ghost use Rattle.saxiko_c.specs.declared.stage.Stage.TheVariants.{AtRest, Moving, Waiting};

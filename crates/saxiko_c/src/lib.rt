@@ -9,16 +9,16 @@ mod grace;
 mod grace_calls;
 mod handle;
 mod handles;
-mod inserting;
-mod inserting_calls;
-mod loading;
+mod insert;
+mod insert_calls;
+mod load;
 mod loose;
 mod matches;
 mod matches_calls;
 mod owner;
 mod records;
-mod running;
-mod running_calls;
+mod running_table;
+mod running_table_calls;
 mod stage;
 mod status;
 mod table;
@@ -28,10 +28,10 @@ mod walk_calls;
 
 pub use grace_calls::{saxiko_proved_writer_check, saxiko_proved_writer_start};
 pub use handles::{SaxikoReader, SaxikoTable, SaxikoWriter};
-pub use inserting_calls::{saxiko_proved_table_insert, saxiko_proved_writer_insert};
+pub use insert_calls::{saxiko_proved_table_insert, saxiko_proved_writer_insert};
 pub use matches_calls::{saxiko_proved_table_lookup_rule, saxiko_proved_writer_lookup_rule};
 pub use records::{SaxikoConfig, SaxikoCounts, SaxikoHeld, SaxikoRoute, SaxikoSpan};
-pub use running_calls::{
+pub use running_table_calls::{
     saxiko_proved_reader_close, saxiko_proved_reader_lookup, saxiko_proved_reader_lookup_bulk,
     saxiko_proved_reader_lookup_bulk_span, saxiko_proved_reader_lookup_span,
     saxiko_proved_reader_offline, saxiko_proved_reader_online, saxiko_proved_reader_quiescent,

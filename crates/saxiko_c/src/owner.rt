@@ -18,7 +18,7 @@ pub struct Owner {
 }
 
 impl Model for Owner {
-    ghost use Rattle.saxiko_c.specs.Running.{OwnerState, coded_owner};
+    ghost use Rattle.saxiko_c.specs.RunningTable.{OwnerState, coded_owner};
     ghost use Rattle.saxiko_c.specs.Stages.{IsSettled, owned_in, waits_in};
 
     ghost Value = { OwnerState };

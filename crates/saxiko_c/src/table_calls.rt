@@ -9,7 +9,7 @@ use crate::handle::{Handle, on_closed, on_open, put, take};
 use crate::handles::SaxikoTable;
 use crate::records::{SaxikoConfig, SaxikoCounts, SaxikoRoute};
 use crate::status::{EBUSY, EINVAL};
-use crate::{loading, table};
+use crate::{load, table};
 use std::alloc::Global;
 
 /// Opens a table without rules in a closed handle.
@@ -37,7 +37,7 @@ pub extern "C" fn saxiko_proved_table_load(
     ensures { Loads (config_of config.now 0) routes.now bad.old bad.new handle.old.kept result
         handle.new.kept }
 {
-    on_closed!(alloc, handle => loading::load_table(alloc, config.with_readers(0), routes, bad))
+    on_closed!(alloc, handle => load::load_table(alloc, config.with_readers(0), routes, bad))
 }
 
 /// Frees the table; a closed handle stays closed.

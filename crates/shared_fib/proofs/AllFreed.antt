@@ -6,13 +6,13 @@ use Rattle.qsbr.specs.Counters.{IsOnline, Registry}
 use Rattle.lpm_limits.specs.declared.busy.Busy.{Busy}
 use Rattle.defer_queue.specs.declared.Reclaimed.{Reclaimed}
 use Rattle.fib_model.specs.State.{State}
-use Rattle.fib_model.specs.Counting.{counter_transitions, IsFirstByCounter}
+use Rattle.fib_model.specs.Counters.{counter_transitions, IsFirstByCounter}
 use Rattle.fib_model.specs.Outcomes.{Frees}
 use Rattle.fib_model.proofs.ByPlaces.{Passes, Reclaims, by_places}
 use Rattle.lpm_limits.specs.declared.config.Config.{Config}
 use Rattle.lpm_writer.specs.declared.plain_memory.PlainMemory.{PlainMemory}
 use Rattle.lpm_writer.specs.declared.control.ControlState.{ControlState}
-use Rattle.lpm_writer.specs.Waiting.{tokens_of}
+use Rattle.lpm_writer.specs.Limbo.{tokens_of}
 use Rattle.fib.specs.Fib.{FibState, IsSound, table_of}
 
 -- checks that pass leave the token and the counters

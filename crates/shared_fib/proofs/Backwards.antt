@@ -14,7 +14,7 @@ use Rattle.lpm_trace.proofs.Promises.{versions_never_fall_at_places}
 use Rattle.shared_words.specs.Rule.{IsLater}
 use Rattle.shared_words.specs.Deeds.{firsts_at, loads_at, seconds_at}
 use Rattle.shared_words.proofs.Deeds.{later_longer}
-use Rattle.shared_fib.specs.Running.{Identity, WriterState, IsAtRest, initial_state, steps_of}
+use Rattle.shared_fib.specs.RunningTable.{Identity, WriterState, IsAtRest, initial_state, steps_of}
 use Rattle.shared_fib.specs.Versions.{updates_begun, updates_done}
 use Rattle.shared_fib.specs.Passes.{PassState, IsHistory}
 use Rattle.shared_fib.proofs.Versions.{counts, oldest_before}

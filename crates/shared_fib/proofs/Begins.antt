@@ -26,15 +26,15 @@ use Rattle.defer_queue.specs.Limbo.{Limbo as Queue}
 use Rattle.lpm_writer.specs.declared.plain_memory.PlainMemory.{PlainMemory}
 use Rattle.lpm_writer.specs.declared.control.ControlState.{ControlState}
 use Rattle.lpm_writer.specs.Plain.{PlainDid}
-use Rattle.lpm_writer.specs.Resting.{blank_state, IsResting, state_of}
-use Rattle.lpm_writer.specs.Waiting.{tokens_of}
+use Rattle.lpm_writer.specs.Rest.{blank_state, IsResting, state_of}
+use Rattle.lpm_writer.specs.Limbo.{tokens_of}
 use Rattle.fib.specs.Fib.{IsSound}
 use Rattle.shared_words.specs.declared.view.View.{View}
 use Rattle.shared_words.specs.Rule.{writer_view}
 use Rattle.shared_words.specs.Seats.{IsOf, WordsAt}
 use Rattle.shared_fib.specs.declared.initial_table.InitialTable.{InitialTable}
-use Rattle.shared_fib.specs.Loading.{IsLoaded}
-use Rattle.shared_fib.specs.Running.{Identity, WriterState, IsSoundWriter, initial_data_of, initial_writer}
+use Rattle.shared_fib.specs.Loaded.{IsLoaded}
+use Rattle.shared_fib.specs.RunningTable.{Identity, WriterState, IsSoundWriter, initial_data_of, initial_writer}
 use Rattle.shared_fib.proofs.Live.{live_settled, live_rests}
 
 -- The words that were packed for a table are unpacked again.

@@ -13,14 +13,14 @@ use Rattle.lpm_trace.proofs.Versions.{token_is, passed_is}
 use Rattle.lpm_trace.specs.Writer.{token_after}
 use Rattle.lpm_writer.specs.Steps.{Synchronizes}
 use Rattle.lpm_writer.proofs.StepsAlone.{steps_passed, stopped_token}
-use Rattle.lpm_writer.specs.Matching.{AreRetired}
-use Rattle.lpm_writer.specs.Waiting.{tokens_of}
+use Rattle.lpm_writer.specs.GroupsMatch.{AreRetired}
+use Rattle.lpm_writer.specs.Limbo.{tokens_of}
 use Rattle.shared_words.specs.declared.view.View.{View}
 use Rattle.shared_words.specs.Layout.{InitialData, initial_state_of}
 use Rattle.shared_words.specs.Seats.{AreChecked}
-use Rattle.shared_fib.specs.Freeing.{FreesChecked}
+use Rattle.shared_fib.specs.Freed.{FreesChecked}
 use Rattle.shared_fib.proofs.Freed.{Leaves}
-use Rattle.shared_fib.specs.Running.{OnlySees}
+use Rattle.shared_fib.specs.RunningTable.{OnlySees}
 use Rattle.shared_fib.proofs.Taking.{given_up}
 use Rattle.shared_fib.proofs.Lookups.{all_front}
 

@@ -15,7 +15,7 @@ use Rattle.lpm_update.specs.Linked.{group_at}
 use Rattle.lpm_update.specs.Represents.{Represents}
 use Rattle.lpm_update.specs.Tied.{IsTied, HasGroupRoom}
 use Rattle.lpm_trace.specs.States.{Status, Retired, IsSettled}
-use Rattle.lpm_writer.specs.Resting.{IsResting}
+use Rattle.lpm_writer.specs.Rest.{IsResting}
 use Rattle.lpm_writer.proofs.Reclaims.{linked_not_retired}
 use Rattle.lpm_writer.proofs.Initial.{status_at_first, unused_retired, begins_settled, begins_resting}
 use Rattle.shared_words.specs.Layout.{InitialData, status_of, initial_state_of}

@@ -14,7 +14,7 @@ use Rattle.lpm_trace.proofs.Traces.{at_now}
 use Rattle.shared_words.specs.Deeds.{AddressLookup, IsReadOn, loads_at, seen_of}
 use Rattle.shared_words.proofs.Together.{both_loads}
 use Rattle.std.proofs.lemmas.Option.{none-some, same_Some}
-use Rattle.shared_fib.specs.Running.{initial_state, hop_or}
+use Rattle.shared_fib.specs.RunningTable.{initial_state, hop_or}
 use Rattle.shared_fib.specs.Passes.{PassState, IsHistory, LooksUp, LooksUpAll, Makes, IsAnswered}
 use Rattle.shared_fib.proofs.Versions.{counts, written_then}
 use Rattle.std.proofs.lemmas.List.{drop-drop, map-append}

@@ -13,7 +13,7 @@ use Rattle.shared_words.specs.declared.view.View.{View}
 use Rattle.shared_words.specs.Layout.{InitialData, initial_state_of}
 use Rattle.shared_words.specs.Seats.{AreChecked}
 use Rattle.shared_fib.specs.Lent.{token_by, LentSeat, SharedDid, SharedDoes}
-use Rattle.shared_fib.specs.Running.{OnlySees, WriterState, Identity, IsAtRest, initial_state}
+use Rattle.shared_fib.specs.RunningTable.{OnlySees, WriterState, Identity, IsAtRest, initial_state}
 use Rattle.shared_fib.proofs.Checked.{looked, token_checked}
 use Rattle.lpm_cells.specs.Words.{entry_at}
 use Rattle.lpm_limits.specs.declared.config.Config.{Config}
@@ -21,7 +21,7 @@ use Rattle.lpm_rules.specs.RuleMap.{RuleList}
 use Rattle.lpm_update.specs.Represents.{Represents}
 use Rattle.lpm_update.proofs.Promises.{best_hop}
 use Rattle.lpm_writer.specs.declared.pool.GroupPool.{GroupPool}
-use Rattle.lpm_writer.specs.Resting.{IsResting, state_of}
+use Rattle.lpm_writer.specs.Rest.{IsResting, state_of}
 use Rattle.lpm_writer.proofs.Reclaims.{is_limbo}
 use Rattle.lpm_writer.proofs.UpdateRuns.{fit}
 use Rattle.atomic_table.specs.Seated.{TableId}

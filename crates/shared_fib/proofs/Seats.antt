@@ -6,7 +6,7 @@ use Rattle.std.proofs.lemmas.Option.{none-some, same_Some, slice_get_within, sli
 use Rattle.atomic_table.specs.Seated.{TableId}
 use Rattle.shared_words.specs.declared.view.View.{View}
 use Rattle.std.specs.Prelude.{false, ◌⊎◌, slice_set, slice_index_or}
-use Rattle.shared_fib.specs.Running.{Identity}
+use Rattle.shared_fib.specs.RunningTable.{Identity}
 use Rattle.shared_fib.specs.Passes.{PassState, IsPassOf, IsFullBench, IsBenchOf}
 
 -- The passes of a table's workers, which were made one after another.

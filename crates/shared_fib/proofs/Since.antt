@@ -12,7 +12,7 @@ use Rattle.lpm_trace.specs.declared.step.WorkerStep.TheVariants.{LoadOnline, Sto
 use Rattle.lpm_trace.specs.States.{InitialState, TableState, begun_at, state_at}
 use Rattle.lpm_trace.specs.Trace.{Worker, Phase, Offline, ComingOnline, Online, LookingUp, ReportingQuiescent, Probe, Unread, InGroup, Answered, FinishedLookup, MayRead, IsBetweenDeeds, worker_by_step, read_first, first_read, second_read, with_answers, worker_by}
 use Rattle.lpm_trace.specs.Laws.{ArePlaced, IsLegalAtPlace}
-use Rattle.shared_fib.specs.Running.{initial_state}
+use Rattle.shared_fib.specs.RunningTable.{initial_state}
 use Rattle.shared_fib.specs.Laws.{IsFinishedSince, PassesNeverGoBack}
 use Rattle.std.proofs.lemmas.Option.{none-some}
 use Rattle.shared_fib.proofs.Backwards.{at_place, in_order}

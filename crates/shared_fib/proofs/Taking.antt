@@ -23,13 +23,13 @@ use Rattle.lpm_trace.specs.States.{InitialState, TableState, Status, Retired, st
 use Rattle.lpm_trace.specs.States as status
 use Rattle.lpm_trace.proofs.Versions.{with_at_case, token_is, first_word_is, firsts_length}
 use Rattle.lpm_writer.specs.declared.pool.GroupPool.{GroupPool}
-use Rattle.lpm_writer.specs.Waiting.{AreWaiting, tokens_of}
-use Rattle.lpm_writer.specs.Matching.{AreRetired}
-use Rattle.lpm_writer.specs.Taking.{HasNoneFreeBelow, LinksLeast}
-use Rattle.lpm_writer.specs.Resting.{IsResting, state_of}
+use Rattle.lpm_writer.specs.Limbo.{AreWaiting, tokens_of}
+use Rattle.lpm_writer.specs.GroupsMatch.{AreRetired}
+use Rattle.lpm_writer.specs.Take.{HasNoneFreeBelow, LinksLeast}
+use Rattle.lpm_writer.specs.Rest.{IsResting, state_of}
 use Rattle.lpm_writer.proofs.LimboItems.{waiting_set, is_freed}
 use Rattle.shared_words.specs.Layout.{InitialData, initial_state_of}
-use Rattle.shared_fib.specs.Freeing.{HasGroup, IsGivenUp, IsOccupied, TakesLeast}
+use Rattle.shared_fib.specs.Freed.{HasGroup, IsGivenUp, IsOccupied, TakesLeast}
 use Rattle.lpm_writer.proofs.Initial.{no_group}
 use Rattle.lpm_writer.proofs.Reclaims.{linked_not_retired}
 use Rattle.lpm_writer.proofs.Storing.{retired_token}

@@ -10,16 +10,16 @@ use Rattle.lpm_trace.proofs.Versions.{token_is}
 use Rattle.lpm_writer.specs.declared.control.ControlState.{ControlState}
 use Rattle.lpm_writer.specs.Steps.{Checks}
 use Rattle.lpm_writer.specs.Traced as traced
-use Rattle.lpm_writer.specs.Resting.{IsResting}
+use Rattle.lpm_writer.specs.Rest.{IsResting}
 use Rattle.lpm_writer.specs.Commands.{IsWaiting}
-use Rattle.lpm_writer.specs.Waiting.{tokens_of}
+use Rattle.lpm_writer.specs.Limbo.{tokens_of}
 use Rattle.lpm_writer.proofs.StepsAlone.{checks_alone, checks_fixed}
 use Rattle.shared_words.specs.declared.view.View.{View}
 use Rattle.shared_words.specs.Layout.{InitialData, initial_state_of}
 use Rattle.shared_words.specs.Seats.{AreLawful, state_of_view, with_step}
 use Rattle.shared_fib.specs.Grace.{IsInGrace}
 use Rattle.shared_fib.specs.Lent.{LentSeat, SharedDid, passed_by, state_of_lent, token_by}
-use Rattle.shared_fib.specs.Running.{IsSoundWriter, OnlySees}
+use Rattle.shared_fib.specs.RunningTable.{IsSoundWriter, OnlySees}
 use Rattle.shared_fib.proofs.Seated.{either, on_err_then, on_ok_both, on_ok_then, seat_passed, seat_token_stays, Kept, kept, does_in, stays, only_sees, outcome_after, rests_after}
 use Rattle.shared_fib.proofs.Waited.{exhausted_by, queued_passed}
 

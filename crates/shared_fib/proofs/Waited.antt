@@ -15,8 +15,8 @@ use Rattle.lpm_trace.proofs.Versions.{token_is, passed_is}
 use Rattle.lpm_writer.specs.Steps as by_steps
 use Rattle.lpm_writer.specs.Steps.{AreStopped, Synchronizes}
 use Rattle.lpm_writer.specs.Traced.{Checks}
-use Rattle.lpm_writer.specs.Waiting.{tokens_of}
-use Rattle.lpm_writer.specs.Resting.{IsResting}
+use Rattle.lpm_writer.specs.Limbo.{tokens_of}
+use Rattle.lpm_writer.specs.Rest.{IsResting}
 use Rattle.lpm_writer.proofs.StepsAlone.{checks_alone, checks_fixed, stopped_token}
 use Rattle.shared_words.specs.declared.view.View.{View}
 use Rattle.shared_words.specs.Layout.{initial_state_of}

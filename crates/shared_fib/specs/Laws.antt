@@ -7,7 +7,7 @@ use Rattle.lpm_trace.specs.States.{InitialState, IsAnswer, updates_done_in, upda
 use Rattle.lpm_trace.specs.Trace.{FinishedLookup, IsBetweenDeeds, worker_by}
 use Rattle.lpm_trace.specs.Laws.{IsLegalAtPlace}
 use Rattle.shared_words.specs.Rule.{IsLater}
-use Rattle.shared_fib.specs.Running.{WriterState, IsAtRest, initial_state, steps_of}
+use Rattle.shared_fib.specs.RunningTable.{WriterState, IsAtRest, initial_state, steps_of}
 use Rattle.shared_fib.specs.Passes.{PassState, IsHistory, LooksUp, LooksUpAll}
 
 -- ---- versions

@@ -1,7 +1,7 @@
-pub mod Running
-pub mod Freeing
+pub mod RunningTable
+pub mod Freed
 pub mod Versions
-pub mod Loading
+pub mod Loaded
 pub mod Laws
 pub mod Initial
 pub mod Lent

@@ -16,7 +16,7 @@ use Rattle.lpm_trace.specs.Trace.{worker_by}
 use Rattle.lpm_trace.specs.Laws.{ArePlaced, IsLegalAtPlace}
 use Rattle.shared_words.specs.Rule.{IsLater}
 use Rattle.shared_words.specs.Deeds.{AddressLookup, IsReadOn, firsts_at, last_at, loads_at, seconds_at}
-use Rattle.shared_fib.specs.Running.{Identity, coded_identity, initial_state, phase_by}
+use Rattle.shared_fib.specs.RunningTable.{Identity, coded_identity, initial_state, phase_by}
 use Rattle.shared_fib.specs.Versions.{IsVersion, updates_begun, updates_done}
 use Rattle.lpm_trace.specs.contracts.step.WriterStep as writer_row
 use Rattle.lpm_trace.specs.contracts.step.WorkerStep as worker_row

@@ -1,7 +1,7 @@
 //! Lookups of a burst of addresses by a pass.
 
 ghost use Rattle.std.specs.Prelude.{◌≡◌, ◌+◌, ◌≤◌, ◌<◌, ◌++◌, ℕ, List, Option, length, min, map, take, drop, true};
-ghost use Rattle.shared_fib.specs.Running.{hop_or};
+ghost use Rattle.shared_fib.specs.RunningTable.{hop_or};
 ghost use Rattle.shared_fib.specs.Passes.{LooksUpAll};
 ghost use Rattle.shared_fib.specs.Bursts.{LooksUpBurst};
 

@@ -4,11 +4,11 @@ ghost use Rattle.std.specs.Prelude.{◌≡◌, ◌+◌, ◌^◌, ◌<◌, ◌≤
 ghost use Rattle.lpm_trace.specs.declared.step.WriterStep.TheVariants.{BumpToken};
 ghost use Rattle.lpm_trace.specs.Laws.{IsChecked};
 ghost use Rattle.lpm_writer.specs.Steps.{Checks};
-ghost use Rattle.lpm_writer.specs.Waiting.{tokens_of};
+ghost use Rattle.lpm_writer.specs.Limbo.{tokens_of};
 ghost use Rattle.shared_words.specs.Seats.{IsOf, with_step};
 ghost use Rattle.shared_fib.specs.Lent.{passed_by, token_by};
 ghost use Rattle.shared_fib.specs.Grace.{IsInGrace};
-ghost use Rattle.shared_fib.specs.Running.{IsSoundWriter, OnlySees, passed_of, state_by, steps_of, token_of};
+ghost use Rattle.shared_fib.specs.RunningTable.{IsSoundWriter, OnlySees, passed_of, state_by, steps_of, token_of};
 
 use crate::table::Words;
 use crate::{SharedMemory, SharedTable, Writer};
@@ -28,7 +28,7 @@ pub struct GracePeriod<const FIRST: u32, const SECOND: u32> {
 
 impl<const FIRST: u32, const SECOND: u32> Model for GracePeriod<FIRST, SECOND> {
     ghost use Rattle.shared_fib.specs.Grace.{IsInGrace};
-    ghost use Rattle.shared_fib.specs.Running.{WriterState, coded_writer, state_by};
+    ghost use Rattle.shared_fib.specs.RunningTable.{WriterState, coded_writer, state_by};
 
     ghost Value = { WriterState };
 

@@ -7,30 +7,30 @@
 
 mod bench;
 mod bursts;
-mod filling;
 mod grace;
+mod initial;
+mod initial_sorted;
 mod initial_table;
 pub mod laws;
 mod memory;
-mod opening;
-mod opening_sorted;
 mod pack;
 mod pairs;
 mod pass;
-mod reading;
+mod queries;
 mod shared;
-mod synchronizing;
+mod synchronize;
 mod table;
+mod word_list;
 mod writer;
 
 pub use bench::{Bench, RegisterError};
 pub use bursts::Burst;
 pub use grace::{GracePeriod, Held, NotStarted};
+pub use initial::{go_live, open};
+pub use initial_sorted::open_sorted;
 use initial_table::InitialTable;
 pub use lpm_rules::Answer;
 pub use lpm_writer::{Exhausted, OpenError};
-pub use opening::{go_live, open};
-pub use opening_sorted::open_sorted;
 use pairs::Pairs;
 pub use pass::{FourHops, Pass};
 use shared::SharedMemory;

@@ -4,7 +4,7 @@ ghost use Rattle.std.specs.Prelude.{◌≡◌, ℕ, ◌+◌, ◌^◌, ◌<◌, A
 ghost use Rattle.lpm_trace.specs.declared.step.WorkerStep.TheVariants.{LoadOnline, StoreOnline, LoadQuiescent, StoreQuiescent, StoreOffline, MeetWriter};
 ghost use Rattle.lpm_trace.specs.Trace.{worker_by, Offline};
 ghost use Rattle.shared_fib.specs.Passes.{IsHistory, LooksUp, LooksUpAll, Makes};
-ghost use Rattle.shared_fib.specs.Running.{hop_or, steps_of};
+ghost use Rattle.shared_fib.specs.RunningTable.{hop_or, steps_of};
 
 use crate::{SharedTable, Writer};
 use lpm_bits::Hop;
@@ -38,7 +38,7 @@ pub struct Pass {
 }
 
 impl Model for Pass {
-    ghost use Rattle.shared_fib.specs.Running.{IsPass};
+    ghost use Rattle.shared_fib.specs.RunningTable.{IsPass};
     ghost use Rattle.shared_fib.specs.Passes.{PassState, coded_pass};
 
     ghost Value = { PassState };

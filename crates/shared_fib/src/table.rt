@@ -1,8 +1,8 @@
 //! The words of a running table.
 
 ghost use Rattle.std.specs.Prelude.{◌≡◌};
-ghost use Rattle.lpm_writer.specs.Making.{HasWidths};
-ghost use Rattle.shared_fib.specs.Running.{IsFitted, initial_state};
+ghost use Rattle.lpm_writer.specs.GroupToFill.{HasWidths};
+ghost use Rattle.shared_fib.specs.RunningTable.{IsFitted, initial_state};
 
 use crate::InitialTable;
 use shared_words::SharedWords;
@@ -20,7 +20,7 @@ pub struct SharedTable<const FIRST: u32, const SECOND: u32> {
 }
 
 impl<const FIRST: u32, const SECOND: u32> Model for SharedTable<FIRST, SECOND> {
-    ghost use Rattle.shared_fib.specs.Running.{Identity, coded_identity, IsFitted};
+    ghost use Rattle.shared_fib.specs.RunningTable.{Identity, coded_identity, IsFitted};
 
     ghost Value = { Identity };
 

@@ -3,8 +3,8 @@
 ghost use Rattle.std.specs.Prelude.{ℕ, ◌≡◌, List, take};
 ghost use Rattle.fib_model.specs.Outcomes.{Adds, Deletes, Flushes, Frees};
 ghost use Rattle.shared_words.specs.Rule.{IsLater};
-ghost use Rattle.shared_fib.specs.Freeing.{FreesChecked, TakesLeast};
-ghost use Rattle.shared_fib.specs.Running.{IsSoundWriter, by_steps, state_by, steps_of};
+ghost use Rattle.shared_fib.specs.Freed.{FreesChecked, TakesLeast};
+ghost use Rattle.shared_fib.specs.RunningTable.{IsSoundWriter, by_steps, state_by, steps_of};
 
 use crate::{SharedMemory, SharedTable};
 use defer_queue::Reclaimed;
@@ -31,7 +31,7 @@ pub struct Writer<const FIRST: u32, const SECOND: u32> {
 }
 
 impl<const FIRST: u32, const SECOND: u32> Model for Writer<FIRST, SECOND> {
-    ghost use Rattle.shared_fib.specs.Running.{WriterState, coded_writer, IsSoundWriter, state_by};
+    ghost use Rattle.shared_fib.specs.RunningTable.{WriterState, coded_writer, IsSoundWriter, state_by};
 
     ghost Value = { WriterState };
 

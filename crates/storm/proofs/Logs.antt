@@ -14,10 +14,10 @@ use Rattle.lpm_writer.specs.Steps.{by_steps_from}
 use Rattle.lpm_limits.specs.declared.config.Config.{Config}
 use Rattle.fib_model.specs.declared.orders.Order.{Order}
 use Rattle.fib_model.specs.declared.orders.Outcome.{Outcome}
-use Rattle.lpm_writer.specs.Making.{HasWidths}
+use Rattle.lpm_writer.specs.GroupToFill.{HasWidths}
 use Rattle.lpm_rules.specs.RuleMap.{RuleMap}
 use Rattle.lpm_rules.specs.declared.Change.{Change}
-use Rattle.shared_fib.specs.Running.{Identity, IsAtRest, WriterState, initial_writer, initial_state}
+use Rattle.shared_fib.specs.RunningTable.{Identity, IsAtRest, WriterState, initial_writer, initial_state}
 use Rattle.storm.specs.Writer.{HasMade, HasVersions, IsForWriter, IsOpened, by_own_steps, change_by, changes_by}
 use Rattle.storm.proofs.Versions.{append_nil, versions_next, versions_none}
 use Rattle.defer_queue.specs.Reclaims as queue

@@ -13,14 +13,14 @@ use Rattle.lpm_trace.specs.Trace.{worker_by, FinishedLookup, Worker as WorkerSta
 use Rattle.lpm_trace.specs.Laws.{ArePlaced, IsLegalAtPlace}
 use Rattle.shared_words.specs.Rule.{IsLater}
 use Rattle.shared_words.specs.Deeds.{seen_of}
-use Rattle.shared_fib.specs.Running.{Identity, initial_state, WriterState, steps_of}
+use Rattle.shared_fib.specs.RunningTable.{Identity, initial_state, WriterState, steps_of}
 use Rattle.shared_fib.specs.Passes.{PassState, IsHistory, LooksUp, Makes}
 use Rattle.shared_fib.proofs.Lookups.{finished_more}
 use Rattle.shared_fib.proofs.Backwards.{of_shown, of_version_still, shown}
 use Rattle.storm.specs.Workers.{HasLookedUp, IsOfAStandingVersion, answer_of, answers_by, lookups_of, times, HasAnswered, answers_of_passes, answers_of_workers}
 use Rattle.lpm_rules.specs.declared.Change.{Change}
 use Rattle.lpm_rules.specs.RuleMap.{RuleMap}
-use Rattle.lpm_writer.specs.Making.{HasWidths}
+use Rattle.lpm_writer.specs.GroupToFill.{HasWidths}
 use Rattle.audit.specs.Wrong.{IsOfSomeVersion}
 use Rattle.storm.specs.Writer.{HasVersions}
 use Rattle.storm.proofs.Versions.{answer_is_right}

@@ -29,8 +29,8 @@ use Rattle.lpm_rules.proofs.Longest.{rules_after-append}
 use Rattle.lpm_trace.specs.States.{InitialState, TableState, updates_begun_in, state_after}
 use Rattle.lpm_trace.specs.Trace.{FinishedLookup}
 use Rattle.lpm_trace.proofs.Traces.{begun_grows}
-use Rattle.lpm_writer.specs.Making.{HasWidths}
-use Rattle.shared_fib.specs.Running.{Identity, IsAtRest, WriterState, state_of_writer, initial_writer, initial_state, steps_of, by_steps}
+use Rattle.lpm_writer.specs.GroupToFill.{HasWidths}
+use Rattle.shared_fib.specs.RunningTable.{Identity, IsAtRest, WriterState, state_of_writer, initial_writer, initial_state, steps_of, by_steps}
 use Rattle.shared_fib.proofs.Backwards.{versions_stay}
 use Rattle.storm.specs.Workers.{IsOfAStandingVersion, answer_of}
 use Rattle.storm.specs.Storm.{Settles}

@@ -1,10 +1,10 @@
 -- Meaning: what comes of a storm (this project's: every answer is held against the versions of the rules).
-use Rattle.std.specs.Prelude.{ℕ, ◌≡◌, ◌≢◌, ◌+◌, ◌*◌, ◌<◌, ◌≤◌, ◌^◌, ◌⊎◌, ⊤, List, All, length, cond, []}
+use Rattle.std.specs.Prelude.{ℕ, ◌≡◌, ◌≢◌, ◌+◌, ◌*◌, ◌<◌, ◌≤◌, ◌^◌, ◌⊎◌, ⊤, List, All, length, if◌then◌else◌, []}
 use Rattle.lpm_limits.specs.declared.config.Config.{Config}
 use Rattle.lpm_limits.specs.Limits.{IsConfig}
 use Rattle.lpm_rules.specs.RuleMap.{rules_of}
 use Rattle.fib_model.specs.declared.orders.Outcome.{Outcome}
-use Rattle.shared_fib.specs.Running.{Identity, WriterState, token_of, IsAtRest, by_steps, steps_of}
+use Rattle.shared_fib.specs.RunningTable.{Identity, WriterState, token_of, IsAtRest, by_steps, steps_of}
 use Rattle.storm.specs.declared.plan.Plan.{Plan}
 use Rattle.storm.specs.declared.plan.StormError.{StormError}
 use Rattle.storm.specs.Writer.{HasMade, changes_by, refused_among}
@@ -26,7 +26,7 @@ use Rattle.storm.specs.declared.plan.StormError.TheVariants as errors
 
 -- the limits of the table: where a worker is stuck, it is one more than those that look up
 abbrev pub limits_of : {first second : ℕ} → Plan first second → Config
-limits_of p = record p.config { workers = p.config.workers + cond p.has_stuck_worker 1 0 }
+limits_of p = record p.config { workers = p.config.workers + (if p.has_stuck_worker then 1 else 0) }
 
 -- the most answers of a storm
 abbrev pub most_answers : ℕ

@@ -2,7 +2,7 @@
 use Rattle.std.specs.Prelude.{ℕ, ◌≡◌, List}
 use Rattle.lpm_limits.specs.declared.config.Config.{Config}
 use Rattle.fib_model.specs.declared.orders.Order.{Order}
-use Rattle.shared_fib.specs.Running.{Identity}
+use Rattle.shared_fib.specs.RunningTable.{Identity}
 use Rattle.storm.specs.declared.writer.Updates.{Updates}
 use Rattle.storm.specs.declared.workers.Lookups.{Lookups}
 

@@ -9,7 +9,7 @@ use Rattle.lpm_trace.specs.States.{InitialState}
 use Rattle.lpm_trace.specs.Trace.{worker_by, FinishedLookup}
 use Rattle.lpm_trace.specs.Laws.{ArePlaced}
 use Rattle.shared_fib.specs.Laws.{IsOfVersion}
-use Rattle.shared_fib.specs.Running.{Identity, initial_state}
+use Rattle.shared_fib.specs.RunningTable.{Identity, initial_state}
 use Rattle.shared_fib.specs.Passes.{PassState}
 use Rattle.storm.specs.declared.workers.Worker.{Worker}
 

@@ -17,9 +17,9 @@ use Rattle.fib_model.specs.State.{Keeping}
 use Rattle.fib_model.specs.Outcomes.{Runs, log_after}
 use Rattle.lpm_trace.specs.declared.step.WriterStep.{WriterStep}
 use Rattle.lpm_trace.specs.States.{updates_begun_in}
-use Rattle.lpm_writer.specs.Making.{HasWidths}
+use Rattle.lpm_writer.specs.GroupToFill.{HasWidths}
 use Rattle.shared_words.specs.Layout.{InitialData}
-use Rattle.shared_fib.specs.Running.{Identity, IsAtRest, WriterState, by_steps, state_of_writer, initial_writer, initial_state}
+use Rattle.shared_fib.specs.RunningTable.{Identity, IsAtRest, WriterState, by_steps, state_of_writer, initial_writer, initial_state}
 use Rattle.audit.specs.Wrong.{version_from}
 
 -- the writer's steps stand for what the readers reported; no report is made to the writer itself

@@ -3,7 +3,7 @@
 ghost use Rattle.std.specs.Prelude.{◌≡◌, ℕ, ◌+◌, ◌^◌, ◌<◌, ◌≤◌, All, IfOk, IfErr, IfSome, None, true, length, slice_set, vec_len, vec_capacity};
 ghost use Rattle.lpm_rules.specs.RuleMap.{rules_of};
 ghost use Rattle.shared_fib.specs.Passes.{IsBenchOf, IsFullBench};
-ghost use Rattle.shared_fib.specs.Running.{initial_writer};
+ghost use Rattle.shared_fib.specs.RunningTable.{initial_writer};
 ghost use Rattle.bulk.specs.Desks.{IsAtBench};
 ghost use Rattle.storm.specs.Writer.{HasMade, IsForWriter};
 ghost use Rattle.storm.specs.Workers.{AreInSeats, IsOver, IsReadyFor, IsUnused, number_of};

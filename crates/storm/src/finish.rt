@@ -1,7 +1,7 @@
 //! What a storm does when its threads have ended.
 
 ghost use Rattle.std.specs.Prelude.{◌≡◌, ◌+◌, ◌^◌, ◌<◌, ◌≤◌, [], ◌∷◌, ◌++◌, true, All, IfOk, MatchOption, OnErr, OnOk, length, map, drop};
-ghost use Rattle.shared_fib.specs.Running.{initial_state, steps_of, token_of};
+ghost use Rattle.shared_fib.specs.RunningTable.{initial_state, steps_of, token_of};
 ghost use Rattle.audit.specs.Wrong.{AreWrong, version_of};
 ghost use Rattle.storm.specs.Writer.{addition_of, changes_by, change_by, is_refused, refused_among};
 ghost use Rattle.storm.specs.Workers.{AreInSeats, HasAnswered, IsOver, answers_of_workers, number_of};

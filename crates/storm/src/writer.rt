@@ -2,7 +2,7 @@
 
 ghost use Rattle.std.specs.Prelude.{◌≡◌, ◌<◌, ◌≤◌, ◌++◌, ◌∷◌, [], All, length, vec_len, vec_capacity};
 ghost use Rattle.fib_model.specs.Outcomes.{Does};
-ghost use Rattle.shared_fib.specs.Running.{initial_state};
+ghost use Rattle.shared_fib.specs.RunningTable.{initial_state};
 ghost use Rattle.storm.specs.Writer.{HasMade, IsForWriter, by_own_steps};
 
 use bulk::Gate;

@@ -2,10 +2,10 @@
 
 mod changes;
 mod draw;
-mod drawing;
+mod drawn_plans;
 mod plan;
 mod schedules;
 mod scripts;
 
-pub use drawing::{Sizes, drawn, even};
+pub use drawn_plans::{Sizes, drawn, even};
 pub use plan::Plan;

@@ -15,15 +15,15 @@ mod versions;
 
 // the judge of a run
 mod judge_error;
-mod judging;
 mod slow_writer;
+mod verdict;
 
 pub use answers::{Seen, is_legal, lookups, never_falls};
 pub use deeds::{deeds_are_done, deeds_are_sound};
 pub use initial::InitialState;
 pub use judge_error::JudgeError;
-pub use judging::judge;
 pub use memory::loads_are_stores;
 pub use order::writes_in_order;
 pub use reuse::reuse_is_lawful;
+pub use verdict::judge;
 pub use versions::{PlainRule, Versions, version_at};

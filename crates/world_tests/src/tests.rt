@@ -1,6 +1,6 @@
 //! A module for each kind of run, and for the slow programs.
 
-mod asserting;
+mod asserts;
 mod cases;
 mod deciders;
 mod ends;

@@ -1,4 +1,4 @@
-use super::asserting::{assert_at, assert_shown};
+use super::asserts::{assert_at, assert_shown};
 use lpm_bits::{BadHop, BadLength, Hop, Prefix, Shape};
 use std::process::Abort;
 use test_support::hop_number;

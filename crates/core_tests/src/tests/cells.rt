@@ -1,6 +1,6 @@
 ghost use Rattle.std.specs.Prelude.{◌<◌, length};
 
-use super::asserting::assert_at;
+use super::asserts::assert_at;
 use lpm_bits::Hop;
 use lpm_cells::{Cells, Entry, PlainCells};
 use lpm_rules::Rule;

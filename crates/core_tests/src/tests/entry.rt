@@ -1,4 +1,4 @@
-use super::asserting::assert_at;
+use super::asserts::assert_at;
 use lpm_bits::Hop;
 use lpm_cells::Entry;
 use std::process::Abort;

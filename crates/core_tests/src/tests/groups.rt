@@ -1,4 +1,4 @@
-use super::asserting::assert_at;
+use super::asserts::assert_at;
 use lpm_groups::{Counts, GroupState, Groups};
 use std::process::Abort;
 use test_support::draw;

@@ -1,7 +1,7 @@
 //! 300,000 rules, and all groups and workers that a table can have: each call of these answers, since
 //! memory is ample.
 
-use super::asserting::assert_at;
+use super::asserts::assert_at;
 use super::opened::{opened, opened_at};
 use super::table::{assert_number, figures, figures_of_replay};
 use fib::{Fib, Replay};

@@ -3,7 +3,7 @@ ghost use Rattle.qsbr.specs.Counters.{IsChecked};
 ghost use Rattle.defer_queue.specs.Retired.{AreRetired};
 ghost use Rattle.defer_queue.specs.Longest.{TakesLongest};
 
-use super::asserting::assert_at;
+use super::asserts::assert_at;
 use defer_queue::{DeferQueue, Grace, Reclaimed};
 use lpm_limits::Busy;
 use qsbr::Domain;

@@ -1,4 +1,4 @@
-use super::asserting::{assert_at, assert_shown};
+use super::asserts::{assert_at, assert_shown};
 use lpm_limits::{BadConfig, Busy, Config, Refusal};
 use std::alloc::{AllocError, Global};
 use std::process::Abort;

@@ -2,7 +2,7 @@
 
 ghost use Rattle.lpm_bits.specs.Widths.{IsShape};
 
-use super::asserting::assert_at;
+use super::asserts::assert_at;
 use super::table::{assert_numbers, figures, hop, prefix};
 use fib::Fib;
 use lpm_bits::Shape;

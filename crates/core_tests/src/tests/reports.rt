@@ -1,4 +1,4 @@
-use super::asserting::assert_at;
+use super::asserts::assert_at;
 use lpm_limits::Busy;
 use qsbr::Domain;
 use std::process::Abort;

@@ -1,6 +1,6 @@
 ghost use Rattle.std.specs.Prelude.{◌<◌};
 
-use super::asserting::{assert_at, assert_shown};
+use super::asserts::{assert_at, assert_shown};
 use super::bits::covers_plainly;
 use lpm_bits::{Hop, Prefix};
 use lpm_rules::{NoSuchRule, Put, RuleFault, Rules};

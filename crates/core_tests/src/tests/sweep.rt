@@ -5,7 +5,7 @@ ghost use Rattle.std.specs.Prelude.{◌≡◌, ◌+◌, ◌^◌, ◌<◌, []};
 ghost use Rattle.lpm_bits.specs.Widths.{IsShape};
 ghost use Rattle.lpm_rules.specs.RuleMap.{AreInOrder};
 
-use super::asserting::assert_at;
+use super::asserts::assert_at;
 use lpm_bits::{Hop, Shape};
 use lpm_cells::Entry;
 use lpm_rules::{Put, Rule, RuleFault, Rules, count_rules, place_of};

@@ -1,6 +1,6 @@
 ghost use Rattle.lpm_bits.specs.Widths.{IsShape};
 
-use super::asserting::{assert_at, assert_shown};
+use super::asserts::{assert_at, assert_shown};
 use super::cases::{LOOKUPS, UPDATES, Worked};
 use fib::{Fib, Replay};
 use fib_model::{Account, Order, Outcome, expected};

@@ -4,7 +4,7 @@ ghost use Rattle.lpm_rules.specs.RuleMap.{RuleMap};
 ghost use Rattle.lpm_update.specs.Linked.{IsTable, IsLinkTo};
 ghost use Rattle.lpm_update.specs.Represents.{Represents, IsBegun, TurnsInto, AddFits, LastFits};
 
-use super::asserting::assert_at;
+use super::asserts::assert_at;
 use lpm_bits::{Hop, Prefix, Shape};
 use lpm_cells::{Cells, Entry, PlainCells};
 use lpm_rules::Rules;

@@ -1,6 +1,6 @@
 ghost use Rattle.lpm_bits.specs.Widths.{IsShape};
 
-use super::asserting::assert_at;
+use super::asserts::assert_at;
 use audit::{TableCounts, expect, report_text};
 use lpm_bits::Hop;
 use lpm_rules::{Put, Rule, Rules};

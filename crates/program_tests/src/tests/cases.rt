@@ -1,6 +1,6 @@
 //! A run of a command line, and how it ends.
 
-use super::asserting::assert_at;
+use super::asserts::assert_at;
 use super::fakes::{AtBad, BreakingFiles, Short, writer};
 use lpm_program::run::run;
 use std::fmt::Debug;

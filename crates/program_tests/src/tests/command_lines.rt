@@ -1,6 +1,6 @@
 //! The tests of `lpm_options`: what words of the command line ask for.
 
-use super::asserting::{assert_at, assert_shown};
+use super::asserts::{assert_at, assert_shown};
 use lpm_limits::Config;
 use lpm_options::{CommandLine, Refused, options};
 use std::alloc::Global;

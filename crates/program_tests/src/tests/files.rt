@@ -1,7 +1,7 @@
 //! The tests of `route_text`: files of routes, addresses and updates, and the texts of what
 //! comes out.
 
-use super::asserting::{assert_at, assert_shown};
+use super::asserts::{assert_at, assert_shown};
 use defer_queue::Reclaimed;
 use fib_model::Outcome;
 use lpm_bits::{BadHop, Hop, Prefix};

@@ -2,7 +2,7 @@
 //! once.
 ghost use Rattle.lpm_limits.specs.Limits.{IsConfig};
 
-use super::asserting::assert_at;
+use super::asserts::assert_at;
 use super::known::{assert_wrote, known_apply, known_lookup, known_storm};
 use lpm_limits::Config;
 use test_support::Meeting;

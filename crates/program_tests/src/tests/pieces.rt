@@ -1,6 +1,6 @@
 //! A file that is read, and a text that is written, in pieces on threads: as one thread does it.
 
-use super::asserting::assert_at;
+use super::asserts::assert_at;
 use super::known::Paths;
 use lpm_bits::Hop;
 use lpm_files::{Failure, answers_text_on, read_addresses_on, read_routes_on};

@@ -1,6 +1,6 @@
 //! The texts of refusals.
 
-use super::asserting::{assert_at, assert_shown};
+use super::asserts::{assert_at, assert_shown};
 use lpm_files::Failure;
 use lpm_limits::Refusal;
 use std::alloc::Global;

@@ -1,6 +1,6 @@
 //! Words that cannot be had.
 
-use super::asserting::assert_at;
+use super::asserts::assert_at;
 use super::fakes::{AtBad, writer};
 use lpm_program::run::refuse_words;
 use std::io::ErrorKind;

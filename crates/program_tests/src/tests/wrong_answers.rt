@@ -2,7 +2,7 @@
 
 ghost use Rattle.std.specs.Prelude.{◌^◌, ◌<◌, ◌≤◌, All, length};
 
-use super::asserting::assert_at;
+use super::asserts::assert_at;
 use audit::{Past, wrong};
 use lpm_bits::{Hop, Prefix};
 use lpm_rules::{Answer, Change, Rule};

@@ -2,8 +2,8 @@
 ghost use Rattle.std.specs.Prelude.{◌≡◌, ◌<◌, true};
 ghost use Rattle.std.specs.Thread.{IsSync};
 
-use super::asserting::assert_at;
-use super::changing::{SmallTable, SmallWriter};
+use super::asserts::assert_at;
+use super::changes::{SmallTable, SmallWriter};
 use lpm_bits::{Hop, Prefix};
 use lpm_limits::Config;
 use lpm_rules::Answer;

@@ -2,8 +2,8 @@
 ghost use Rattle.std.specs.Prelude.{◌≡◌, true, false};
 ghost use Rattle.shared_fib.specs.Passes.{IsBenchOf};
 
-use super::asserting::assert_at;
-use super::changing::{
+use super::asserts::assert_at;
+use super::changes::{
     ADDED, Ipv4Table, Ipv4Writer, SMALL, SmallTable, SmallWriter, change, figures, groups,
 };
 use defer_queue::Reclaimed;

@@ -3,11 +3,11 @@
 
 mod grace;
 mod large;
-mod running;
+mod running_table;
 mod single;
 mod walk;
 
-use super::asserting::assert_at;
+use super::asserts::assert_at;
 use saxiko::{Config, Hop, Prefix, Rule};
 use std::process::Abort;
 

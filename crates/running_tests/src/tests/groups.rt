@@ -2,8 +2,8 @@
 //! counts and every answer.
 ghost use Rattle.std.specs.Prelude.{◌≡◌, ◌<◌, true, false};
 
-use super::asserting::assert_at;
-use super::changing::{ADDED, Figures, SMALL, SmallTable, SmallWriter, change, figures, groups};
+use super::asserts::assert_at;
+use super::changes::{ADDED, Figures, SMALL, SmallTable, SmallWriter, change, figures, groups};
 use fib::Fib;
 use lpm_rules::{Put, Rule};
 use shared_fib::{Pass, open};

@@ -2,8 +2,8 @@
 //! that a table can have.
 ghost use Rattle.std.specs.Prelude.{◌≡◌, ◌<◌, false, true};
 
-use super::asserting::assert_at;
-use super::changing::{ADDED, Ipv4Table, Ipv4Writer, change, figures};
+use super::asserts::assert_at;
+use super::changes::{ADDED, Ipv4Table, Ipv4Writer, change, figures};
 use shared_fib::{Pass, open, open_sorted};
 use std::process::Abort;
 use std::test::Fail;

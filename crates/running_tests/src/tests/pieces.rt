@@ -3,8 +3,8 @@ ghost use Rattle.std.specs.Prelude.{◌≡◌, All};
 ghost use Rattle.bulk.specs.Desks.{IsDeskOf};
 ghost use Rattle.shared_fib.specs.Passes.{IsFullBench};
 
-use super::asserting::assert_at;
-use super::changing::{Ipv4Table, Ipv4Writer, SmallTable, SmallWriter};
+use super::asserts::assert_at;
+use super::changes::{Ipv4Table, Ipv4Writer, SmallTable, SmallWriter};
 use bulk::{BulkError, Desk, Open, bulk, bulk_plain, piece_start, seat_all};
 use fib::Fib;
 use lpm_limits::{Config, Refusal};

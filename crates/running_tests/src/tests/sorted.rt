@@ -4,8 +4,8 @@ ghost use Rattle.std.specs.Prelude.{◌≡◌, false, true};
 ghost use Rattle.lpm_bits.specs.Widths.{IsShape};
 ghost use Rattle.lpm_rules.specs.RuleMap.{AreInOrder};
 
-use super::asserting::assert_at;
-use super::changing::{Ipv4Table, Ipv4Writer, SmallTable, SmallWriter, change, figures};
+use super::asserts::assert_at;
+use super::changes::{Ipv4Table, Ipv4Writer, SmallTable, SmallWriter, change, figures};
 use fib::Fib;
 use lpm_limits::Config;
 use lpm_rules::Rule;

@@ -1,7 +1,7 @@
 // The worked cases of the pure world, each under its name, over 4 and 4 bits. Every case is judged by the
 // slow program too.
 
-use super::asserting::{
+use super::asserts::{
     Answer, Looked, Numbered, assert_at, assert_step, assert_steps, assert_trace,
 };
 use super::plan::{Edit, ONE_GROUP, played};

@@ -1,7 +1,7 @@
 //! Traces that were written by hand, which every decider accepts, and planted faults in them, each of which
 //! its decider refuses.
 
-use super::asserting::assert_at;
+use super::asserts::assert_at;
 use lpm_trace::{Actor, Deed, Kind, Step};
 use std::alloc::{AllocError, Global};
 use std::process::Abort;

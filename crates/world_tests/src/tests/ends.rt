@@ -1,6 +1,6 @@
 // Where runs end, and what makes no step.
 
-use super::asserting::{Answer, assert_at, assert_replies, assert_reply, assert_trace};
+use super::asserts::{Answer, assert_at, assert_replies, assert_reply, assert_trace};
 use super::plan::{Edit, ONE_GROUP, judged, planned, played, run};
 use defer_queue::Reclaimed;
 use interleave::{Reply, RunError, Trace};

@@ -2,7 +2,7 @@
 
 ghost use Rattle.lpm_bits.specs.Widths.{IsShape};
 
-use super::asserting::assert_at;
+use super::asserts::assert_at;
 use super::plan::{ONE_GROUP, judged, run};
 use lpm_limits::Config;
 use std::alloc::{AllocError, Global};

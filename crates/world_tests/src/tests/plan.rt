@@ -4,7 +4,7 @@ ghost use Rattle.std.specs.Prelude.{◌+◌, ◌^◌, All, IsTrue};
 ghost use Rattle.lpm_bits.specs.Widths.{IsShape};
 ghost use Rattle.interleave.specs.Scripts.{IsSound};
 
-use super::asserting::assert_at;
+use super::asserts::assert_at;
 use interleave::{RunError, Trace, World, script_ok};
 use lpm_bits::{Hop, Prefix, Shape};
 use lpm_limits::Config;

@@ -1,6 +1,6 @@
 // Runs that follow their schedules and break one law of traces, which the slow program refuses by that law.
 
-use super::asserting::assert_at;
+use super::asserts::assert_at;
 use super::plan::{Edit, ONE_GROUP, assert_refused, hop, judged, planned, planned_for, run};
 use super::planted::exchange;
 use interleave::Seen;

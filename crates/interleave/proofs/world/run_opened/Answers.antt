@@ -1,7 +1,7 @@
 use Rattle.std.proofs.Common.{arith, ◌≡◌, ◌≤◌, ap, sym, subst, ◌∙◌, [], length, map}
 use Rattle.std.proofs.lemmas.List.{length-map}
-use Rattle.lpm_writer.specs.Resting.{blank_state}
-use Rattle.lpm_writer.specs.Waiting.{tokens_of}
+use Rattle.lpm_writer.specs.Rest.{blank_state}
+use Rattle.lpm_writer.specs.Limbo.{tokens_of}
 use Rattle.interleave.specs.World.{writer_items, IsPlayedOut}
 use Rattle.interleave.specs.Runs.{state_by_steps, IsPerformed}
 use Rattle.interleave.proofs.Ends.{opens, nothing_yet, run_ends}

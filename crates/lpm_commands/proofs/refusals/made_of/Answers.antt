@@ -2,7 +2,7 @@ use Rattle.std.proofs.Common.{refl, subst, length, ◌<◌, ◌+◌, ◌^◌, ar
 use Rattle.std.proofs.lemmas.Grind.{common_steps}
 use Rattle.lpm_limits.specs.declared.refusal.Refusal.TheVariants.{Exhausted}
 use Rattle.route_text.specs.declared.routes.Route.{Route}
-use Rattle.lpm_commands.specs.Loading.{IsFirstRefused}
+use Rattle.lpm_commands.specs.Load.{IsFirstRefused}
 use Rattle.lpm_commands.proofs.Texts.{refused_ends}
 use Rattle.lpm_commands.proofs.Filled.{exhausted_first}
 use Rattle.lpm_commands.proofs.refusals.made_of.Goals as goal

@@ -8,7 +8,7 @@ use Rattle.lpm_trace.specs.declared.step.WriterStep.TheVariants.{BeginUpdate, Bu
 use Rattle.lpm_trace.specs.States.{InitialState}
 use Rattle.lpm_writer.proofs.GivenUp.{HasRetired, HasUnlinked, Retires}
 use Rattle.lpm_writer.proofs.Making.{MayMake, HasMade}
-use Rattle.lpm_writer.specs.Resting.{IsDue, IsResting}
+use Rattle.lpm_writer.specs.Rest.{IsDue, IsResting}
 use Rattle.lpm_writer.proofs.Rests.{due_step, due_few, due_opened, due_closed}
 use Rattle.lpm_writer.proofs.MakingStores.{IsUnderWayAt, at_first, allows_along, run_stopped, run_retired, run_over}
 use Rattle.lpm_writer.proofs.changes.change.Invariants.{memory}
@@ -22,12 +22,12 @@ use Rattle.lpm_trace.specs.States.{state_after}
 use Rattle.lpm_update.specs.declared.update.Update.{Update}
 use Rattle.lpm_writer.specs.declared.pool.GroupPool.{GroupPool}
 use Rattle.lpm_writer.specs.declared.control.ControlState.{ControlState}
-use Rattle.lpm_writer.specs.Matching.{GroupsMatchSteps, MayReclaim, OnlyChecks}
+use Rattle.lpm_writer.specs.GroupsMatch.{GroupsMatchSteps, MayReclaim, OnlyChecks}
 use Rattle.lpm_writer.specs.Traced.{WithSteps, by_writer}
 use Rattle.std.proofs.Math.ListN.{length-set}
 use Rattle.std.specs.Option.{option_map}
 use Rattle.lpm_groups.specs.States.{is_linked}
-use Rattle.lpm_writer.specs.Waiting.{AreWaiting, IsFreed, IsQueued, tokens_of}
+use Rattle.lpm_writer.specs.Limbo.{AreWaiting, IsFreed, IsQueued, tokens_of}
 use Rattle.lpm_writer.proofs.LimboItems.{waiting_set, absent_other, linked_limbo, MadeRoom, freed_within, no_more_room, room_above, room_below, retired_queue, retired_room, retired_linked, retired_others, retired_gone}
 use Rattle.lpm_writer.proofs.Reclaims.{may_bump, keeps_bumped, may_make_room, still_same, bumped_on, tokens_append}
 use Rattle.fib_model.specs.State.{MakesRoom}

@@ -12,9 +12,9 @@ use Rattle.lpm_update.specs.Tied.{IsTied}
 use Rattle.lpm_trace.specs.declared.step.RuleChange.TheVariants.{Put as Puts}
 use Rattle.lpm_trace.specs.declared.step.WriterStep.{WriterStep}
 use Rattle.lpm_trace.specs.States.{InitialState, state_after}
-use Rattle.lpm_writer.specs.Taking.{Finds, LinksLeast}
+use Rattle.lpm_writer.specs.Take.{Finds, LinksLeast}
 use Rattle.lpm_writer.specs.Traced.{by_writer}
-use Rattle.lpm_writer.specs.Resting.{IsResting, IsDue, state_of}
+use Rattle.lpm_writer.specs.Rest.{IsResting, IsDue, state_of}
 use Rattle.lpm_writer.specs.Commands.{Rests}
 use Rattle.lpm_writer.proofs.StepsAlone.{after_find}
 use Rattle.lpm_writer.proofs.Rests.{linked_resting, between_take, has_tokens, rests_still}

@@ -1,6 +1,6 @@
 use Rattle.std.proofs.Common.{subst, sym, rules}
 use Rattle.defer_queue.proofs.Longest.{Reclaims-within}
-use Rattle.lpm_writer.specs.Waiting.{IsFreed}
+use Rattle.lpm_writer.specs.Limbo.{IsFreed}
 use Rattle.lpm_writer.proofs.LimboItems.{is_freed}
 use Rattle.lpm_writer.proofs.Reclaims.{reclaimed_steps, reclaimed_states, reclaimed_waits}
 use Rattle.lpm_writer.proofs.limbo.free_waiting.Goals as goal

@@ -1,5 +1,5 @@
 use Rattle.std.proofs.Common.{◌≡◌, ◌++◌, drop}
-use Rattle.route_text.specs.Explaining.{cover_lines}
+use Rattle.route_text.specs.Explanation.{cover_lines}
 use Rattle.route_text.proofs.explanations.put_covers.Given as goal
 
 abbrev pub invariant-loop-rule : goal.invariant-loop-rule

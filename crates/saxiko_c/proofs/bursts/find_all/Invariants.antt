@@ -1,5 +1,5 @@
 use Rattle.std.proofs.Common.{length, ◌-◌, ◌≡◌, ◌≤◌, take, true}
-use Rattle.saxiko_c.specs.Running.{FindsEach}
+use Rattle.saxiko_c.specs.RunningTable.{FindsEach}
 use Rattle.saxiko_c.specs.declared.records.SaxikoSpan.{SaxikoSpan}
 use Rattle.saxiko_c.proofs.bursts.find_all.Given as goal
 

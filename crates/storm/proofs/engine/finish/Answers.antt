@@ -3,7 +3,7 @@ use Rattle.lpm_limits.specs.declared.config.Config.{Config}
 use Rattle.lpm_rules.specs.RuleMap.{RuleMap, rules_of}
 use Rattle.lpm_rules.specs.declared.Answer.{Answer}
 use Rattle.lpm_rules.specs.declared.Change.{Change}
-use Rattle.shared_fib.specs.Running.{WriterState, steps_of, token_of}
+use Rattle.shared_fib.specs.RunningTable.{WriterState, steps_of, token_of}
 use Rattle.audit.specs.Wrong.{AreWrong, version_of}
 use Rattle.fib_model.specs.declared.orders.Outcome.{Outcome}
 use Rattle.std.proofs.lemmas.List.{length-map}

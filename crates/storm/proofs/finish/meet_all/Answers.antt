@@ -1,5 +1,5 @@
 use Rattle.std.proofs.Common.{◌≡◌, ◌<◌, ◌∙◌, true, arith, length, length-set, subst}
-use Rattle.shared_fib.specs.Running.{WriterState, steps_of}
+use Rattle.shared_fib.specs.RunningTable.{WriterState, steps_of}
 use Rattle.storm.specs.Workers.{HasAnswered, IsOver, number_of}
 use Rattle.storm.specs.declared.workers.Worker.{Worker}
 use Rattle.storm.proofs.Meetings.{each_set, one_more}

@@ -1,5 +1,5 @@
 use Rattle.std.proofs.Common.{◌≡◌, true, length}
-use Rattle.shared_fib.specs.Running.{steps_of}
+use Rattle.shared_fib.specs.RunningTable.{steps_of}
 use Rattle.storm.specs.Workers.{AreInSeats, HasAnswered, IsOver}
 use Rattle.storm.proofs.Meetings.{UpTo}
 use Rattle.storm.proofs.finish.meet_all.Given as goal

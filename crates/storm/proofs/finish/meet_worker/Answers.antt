@@ -1,5 +1,5 @@
 use Rattle.std.proofs.Common.{◌∙◌}
-use Rattle.shared_fib.specs.Running.{steps_of}
+use Rattle.shared_fib.specs.RunningTable.{steps_of}
 use Rattle.storm.proofs.PassAnswers.{looked_up}
 use Rattle.storm.proofs.finish.meet_worker.Goals as goal
 

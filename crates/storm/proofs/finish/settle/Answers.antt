@@ -2,7 +2,7 @@ use Rattle.std.proofs.Common.{ℕ, ◌≡◌, ◌<◌, ◌≤◌, length, ap, �
 use Rattle.std.specs.Prelude.{All}
 use Rattle.lpm_trace.specs.Writer.{passed_after}
 use Rattle.fib_model.specs.Outcomes.{Frees}
-use Rattle.shared_fib.specs.Running.{Identity, WriterState, by_steps, initial_state, steps_of}
+use Rattle.shared_fib.specs.RunningTable.{Identity, WriterState, by_steps, initial_state, steps_of}
 use Rattle.storm.proofs.Logs.{emptied}
 use Rattle.storm.proofs.finish.settle.Goals as goal
 

@@ -1,6 +1,6 @@
 use Rattle.std.proofs.Common.{◌≡◌, ◌+◌, ◌∙◌, arith, ℕ, All, List, [], ◌∷◌, rules, sym, subst}
 use Rattle.std.proofs.lemmas.List.Elements.{All-append, All-cons}
-use Rattle.shared_fib.specs.Running.{Identity}
+use Rattle.shared_fib.specs.RunningTable.{Identity}
 use Rattle.storm.specs.Workers.{IsOver}
 use Rattle.storm.specs.Threads.{AreLookups}
 use Rattle.storm.specs.declared.workers.Worker.{Worker}

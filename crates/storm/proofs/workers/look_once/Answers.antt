@@ -1,7 +1,7 @@
 use Rattle.std.proofs.Common.{◌∙◌, ◌++◌, [], ◌∷◌, ℕ, List, ap, sym, rules, map, take, append_assoc, get_or}
 use Rattle.std.proofs.lemmas.List.{map-append, take_more}
 use Rattle.lpm_rules.specs.declared.Answer.{Answer}
-use Rattle.shared_fib.specs.Running.{initial_state}
+use Rattle.shared_fib.specs.RunningTable.{initial_state}
 use Rattle.storm.proofs.PassAnswers.{told_more}
 use Rattle.storm.proofs.workers.look_once.Goals as goal
 

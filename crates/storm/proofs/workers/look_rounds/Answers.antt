@@ -1,6 +1,6 @@
 use Rattle.std.proofs.Common.{◌≡◌, ◌+◌, ◌∙◌, refl, arith, rules, map}
 use Rattle.lpm_trace.specs.declared.step.WorkerStep.TheVariants.{LoadQuiescent, StoreQuiescent}
-use Rattle.shared_fib.specs.Running.{initial_state}
+use Rattle.shared_fib.specs.RunningTable.{initial_state}
 use Rattle.storm.specs.Workers.{times}
 use Rattle.storm.proofs.PassAnswers.{kept_by_two, told_on, length_rounds, one_more_round}
 use Rattle.storm.proofs.workers.look_rounds.Goals as goal

@@ -1,6 +1,6 @@
 use Rattle.std.proofs.Common.{◌∙◌, refl}
 use Rattle.lpm_trace.specs.declared.step.WorkerStep.TheVariants.{StoreOffline}
-use Rattle.shared_fib.specs.Running.{initial_state}
+use Rattle.shared_fib.specs.RunningTable.{initial_state}
 use Rattle.storm.proofs.PassAnswers.{kept_by_one, told_on}
 use Rattle.storm.proofs.workers.work.Goals as goal
 

@@ -3,7 +3,7 @@ use Rattle.std.proofs.lemmas.List.{take_all}
 use Rattle.std.proofs.Math.ListN.{length-set}
 use Rattle.lpm_limits.specs.declared.config.Config.{Config}
 use Rattle.lpm_limits.specs.Limits.{IsConfig}
-use Rattle.fib_model.specs.Counting.{by_counters}
+use Rattle.fib_model.specs.Counters.{by_counters}
 use Rattle.fib_model.specs.Outcomes.{Runs, Does, log_after}
 use Rattle.fib.proofs.Replays.{log_next, told}
 use Rattle.fib.proofs.fib.Fib.execute_all.Goals as goal

@@ -1,5 +1,5 @@
 use Rattle.std.proofs.Common.{◌≡◌, [], take, length}
-use Rattle.fib_model.specs.Counting.{by_counters}
+use Rattle.fib_model.specs.Counters.{by_counters}
 use Rattle.fib_model.specs.Outcomes.{Runs, log_after}
 use Rattle.fib.proofs.fib.Fib.execute_all.Given as goal
 

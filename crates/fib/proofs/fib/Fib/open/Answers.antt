@@ -1,4 +1,4 @@
-use Rattle.lpm_writer.specs.Resting.{blank_state}
+use Rattle.lpm_writer.specs.Rest.{blank_state}
 use Rattle.fib.proofs.Sound.{sound_new}
 use Rattle.fib.proofs.fib.Fib.open.Goals as goal
 

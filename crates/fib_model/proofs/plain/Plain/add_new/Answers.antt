@@ -26,7 +26,7 @@ returns-clause-adds g c =
               ),
               (events_of z, refl, refl),
             ),
-            (kept.rules ∙ ap (λ (x : Plain f s). insert x.rules.rules p c.args.hop) w.self-is, kept.begun ∙ ap (λ (x : Plain f s). x.begun + 1) w.self-is),
+            (kept.rules ∙ ap (λ (x : Plain f s). insert x.rules.rules p c.args.hop) w.self-is, kept.begun ∙ ap (λ (x : Plain f s). x.updates_begun + 1) w.self-is),
           )
       | else-lacks_group w ↦
           let same : z ≡ c.args.self.now.limbo = kept.limbo ∙ ap (λ (x : Plain f s). x.limbo) w.self-is in (
@@ -39,6 +39,6 @@ returns-clause-adds g c =
               ),
               (events_of z, refl, refl),
             ),
-            (kept.rules ∙ ap (λ (x : Plain f s). insert x.rules.rules p c.args.hop) w.self-is, kept.begun ∙ ap (λ (x : Plain f s). x.begun + 1) w.self-is),
+            (kept.rules ∙ ap (λ (x : Plain f s). insert x.rules.rules p c.args.hop) w.self-is, kept.begun ∙ ap (λ (x : Plain f s). x.updates_begun + 1) w.self-is),
           )
     ]

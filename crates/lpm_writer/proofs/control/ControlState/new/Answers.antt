@@ -2,7 +2,7 @@ use Rattle.std.proofs.Common.{◌∙◌, [], subst, sym, refl, ap}
 use Rattle.std.specs.Prelude.{IsOk}
 use Rattle.std.specs.FinMap.{empty}
 use Rattle.lpm_rules.specs.RuleMap.{network_cmp}
-use Rattle.lpm_writer.specs.Resting.{blank_state, IsResting}
+use Rattle.lpm_writer.specs.Rest.{blank_state, IsResting}
 use Rattle.lpm_writer.proofs.Initial.{opened_rests, new_books}
 use Rattle.lpm_writer.proofs.control.ControlState.new.Goals as goal
 

@@ -1,6 +1,6 @@
 use Rattle.std.proofs.Common.{sym, subst}
 use Rattle.lpm_writer.specs.Commands.{MayFree}
-use Rattle.lpm_writer.specs.Waiting.{AreWaiting}
+use Rattle.lpm_writer.specs.Limbo.{AreWaiting}
 use Rattle.lpm_writer.proofs.grace.ReclaimerGrace.free.Goals as goal
 
 pub returns-clause-ready : goal.returns-clause-ready

@@ -2,7 +2,7 @@ use Rattle.std.proofs.Common.{◌≡◌, subst, List, Option}
 use Rattle.std.specs.Prelude.{IfSome}
 use Rattle.lpm_rules.specs.RuleMap.{rules_of}
 use Rattle.shared_fib.specs.Passes.{PassState, IsFullBench}
-use Rattle.shared_fib.specs.Running.{Identity, WriterState, initial_writer}
+use Rattle.shared_fib.specs.RunningTable.{Identity, WriterState, initial_writer}
 use Rattle.saxiko.proofs.Owners.{opens_as}
 use Rattle.saxiko.proofs.owner.Owner.load.Goals as goal
 

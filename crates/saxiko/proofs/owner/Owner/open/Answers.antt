@@ -3,7 +3,7 @@ use Rattle.std.specs.Prelude.{IfOk}
 use Rattle.std.proofs.lemmas.Result.{IfOk-weaker, IfErr-weaker}
 use Rattle.std.specs.FinMap as map
 use Rattle.saxiko.specs.Owners.{OwnerState}
-use Rattle.shared_fib.specs.Running.{Identity, initial_state}
+use Rattle.shared_fib.specs.RunningTable.{Identity, initial_state}
 use Rattle.saxiko.proofs.Owners.{OpensAs, opens_as}
 use Rattle.saxiko.proofs.owner.Owner.open.Goals as goal
 

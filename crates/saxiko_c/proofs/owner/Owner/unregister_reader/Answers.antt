@@ -1,7 +1,7 @@
 use Rattle.std.proofs.Common.{◌∙◌, ap, sym, List, Option, Some}
 use Rattle.std.specs.Prelude.{slice_set}
 use Rattle.shared_fib.specs.Passes.{PassState}
-use Rattle.saxiko_c.specs.Running.{OwnerState}
+use Rattle.saxiko_c.specs.RunningTable.{OwnerState}
 use Rattle.saxiko_c.specs.Stages.{owned_in}
 use Rattle.saxiko_c.specs.declared.owner.Owner.TheInside.{Inside}
 use Rattle.saxiko_c.specs.declared.stage.Stage.{Stage}

@@ -1,5 +1,5 @@
 use Rattle.std.proofs.Common.{ℕ, ◌≡◌, ◌≤◌, ◌-◌, List, Option, map, length, take, drop, true}
-use Rattle.shared_fib.specs.Running.{hop_or}
+use Rattle.shared_fib.specs.RunningTable.{hop_or}
 use Rattle.shared_fib.specs.Bursts.{LooksUpBurst}
 use Rattle.shared_fib.proofs.pass.Pass.lookup_bulk.Given as goal
 

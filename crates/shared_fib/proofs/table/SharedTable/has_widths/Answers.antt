@@ -1,5 +1,5 @@
 use Rattle.std.proofs.Common.{sym, ap, ◌∙◌}
-use Rattle.shared_fib.specs.Running.{Identity}
+use Rattle.shared_fib.specs.RunningTable.{Identity}
 use Rattle.shared_fib.proofs.table.SharedTable.has_widths.Goals as goal
 
 pub returns : goal.returns

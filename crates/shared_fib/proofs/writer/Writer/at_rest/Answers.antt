@@ -1,5 +1,5 @@
 use Rattle.std.proofs.Common.{subst}
-use Rattle.shared_fib.specs.Running.{IsAtRest}
+use Rattle.shared_fib.specs.RunningTable.{IsAtRest}
 use Rattle.shared_fib.proofs.Seated.{at_rest}
 use Rattle.shared_fib.proofs.writer.Writer.at_rest.Goals as goal
 

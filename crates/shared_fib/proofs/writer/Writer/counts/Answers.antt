@@ -2,7 +2,7 @@ use Rattle.std.proofs.Common.{ap, ◌∙◌, rules}
 use Rattle.fib_model.specs.Outcomes.{groups_in_use}
 use Rattle.lpm_writer.proofs.Rests.{linked_resting}
 use Rattle.shared_words.specs.Layout.{initial_state_of}
-use Rattle.shared_fib.specs.Running.{WriterState}
+use Rattle.shared_fib.specs.RunningTable.{WriterState}
 use Rattle.shared_fib.proofs.writer.Writer.counts.Goals as goal
 
 pub returns-clause-in_use : goal.returns-clause-in_use

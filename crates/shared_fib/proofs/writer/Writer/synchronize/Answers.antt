@@ -1,7 +1,7 @@
 use Rattle.std.proofs.Common.{◌<◌, sym, subst}
 use Rattle.std.proofs.lemmas.Result.{on_ok_weaker}
 use Rattle.shared_words.specs.Rule.{IsLater}
-use Rattle.shared_fib.specs.Running.{WriterState, steps_of}
+use Rattle.shared_fib.specs.RunningTable.{WriterState, steps_of}
 use Rattle.shared_fib.proofs.writer.Writer.synchronize.Goals as goal
 
 pub returns-clause-queued : goal.returns-clause-queued

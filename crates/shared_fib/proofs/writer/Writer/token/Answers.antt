@@ -1,6 +1,6 @@
 use Rattle.std.proofs.Common.{rules, ◌≡◌, ◌∙◌}
 use Rattle.lpm_trace.proofs.Versions.{token_is}
-use Rattle.shared_fib.specs.Running.{WriterState, state_of_writer, initial_state, steps_of}
+use Rattle.shared_fib.specs.RunningTable.{WriterState, state_of_writer, initial_state, steps_of}
 use Rattle.shared_fib.proofs.writer.Writer.token.Goals as goal
 
 pub returns-clause-value : goal.returns-clause-value

@@ -1,6 +1,0 @@
-use Rattle.std.proofs.Common.{◌+◌}
-use Rattle.lpm_commands.proofs.Found.{AreFound}
-use Rattle.lpm_commands.proofs.covering.covering_rules.Given as goal
-
-abbrev pub invariant-loop-host : goal.invariant-loop-host
-invariant-loop-host g l = AreFound (g.row.FIRST + g.row.SECOND) l.rules.rules l.addr l.host l.found.items

@@ -1,9 +1,0 @@
-use Rattle.std.proofs.Common.{◌≡◌, take}
-use Rattle.lpm_commands.specs.Loading.{IsLoaded}
-use Rattle.lpm_commands.proofs.loading.add_from.Given as goal
-
-abbrev pub invariant-loop-index : goal.invariant-loop-index
-invariant-loop-index l = record {
-  config : l.table.config ≡ l.fn.table.config;
-  loaded : IsLoaded l.fn.table.config (take l.index l.routes) l.table.table;
-}

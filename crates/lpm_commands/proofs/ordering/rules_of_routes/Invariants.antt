@@ -1,6 +1,0 @@
-use Rattle.std.proofs.Common.{◌≡◌, map, take}
-use Rattle.lpm_commands.specs.Filled.{rule_of}
-use Rattle.lpm_commands.proofs.ordering.rules_of_routes.Given as goal
-
-abbrev pub invariant-loop-route : goal.invariant-loop-route
-invariant-loop-route l = l.rules.items ≡ map rule_of (take l.route-index l.routes)

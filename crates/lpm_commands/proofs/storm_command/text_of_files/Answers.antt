@@ -1,0 +1,19 @@
+use Rattle.std.proofs.Common.{rules}
+use Rattle.std.proofs.lemmas.Result.{IfOk-weaker, IfErr-weaker}
+use Rattle.lpm_commands.proofs.Texts.{is_storm_text, ends_storm}
+use Rattle.lpm_commands.proofs.storm_command.text_of_files.Goals as goal
+
+pub returns-clause-text : goal.returns-clause-text
+returns-clause-text g c =
+    IfOk-weaker c.text_of_lists.result _ _ (λ v came.
+    is_storm_text _ _ _ _ _ _ c.in_ok-list.list.items _ c.in_ok-orders.orders.items _ c.in_ok-addrs.addrs.items _ v.items c.in_ok-list.ensures.items c.in_ok-orders.ensures.items c.in_ok-addrs.ensures.items c.deref.ensures.value c.deref-2.ensures.value c.deref-3.ensures.value came)
+    c.text_of_lists.ensures.text
+
+pub returns-clause-failure : goal.returns-clause-failure
+returns-clause-failure g c =
+    IfErr-weaker c.text_of_lists.result _ _ (λ e ends.
+    ends_storm _ _ _ c.args.routes.now c.args.updates.now c.args.addresses.now (g.F.Files.bytes c.args.files.now) c.in_ok-list.list.items _ c.in_ok-orders.orders.items _ c.in_ok-addrs.addrs.items _ e c.in_ok-list.ensures.items c.in_ok-orders.ensures.items c.in_ok-addrs.ensures.items c.deref.ensures.value c.deref-2.ensures.value c.deref-3.ensures.value ends)
+    c.text_of_lists.ensures.failure
+
+pub returns-in_err-orders-clause-failure : goal.returns-in_err-orders-clause-failure
+returns-in_err-orders-clause-failure g c = search rules

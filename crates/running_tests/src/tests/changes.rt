@@ -1,0 +1,65 @@
+//! Changes of a running table, and its figures after them.
+ghost use Rattle.std.specs.Prelude.{◌≡◌};
+ghost use Rattle.lpm_bits.specs.Widths.{IsShape};
+
+use super::asserts::assert_at;
+use lpm_groups::Counts;
+use lpm_limits::Config;
+use lpm_rules::{Put, Rule};
+use shared_fib::{SharedTable, Writer};
+use std::process::Abort;
+use test_support::{Change, Plain, USUAL, rule_of};
+
+pub(crate) type Ipv4Table = SharedTable<24, 8>;
+
+pub(crate) type Ipv4Writer = Writer<24, 8>;
+
+pub(crate) type SmallTable = SharedTable<4, 4>;
+
+pub(crate) type SmallWriter = Writer<4, 4>;
+
+/// Nine rules, one group and one worker.
+pub(crate) const SMALL: Config = Config {
+    rules: 9,
+    groups: 1,
+    ..USUAL
+};
+
+pub(crate) const ADDED: Change = Change::Add(Put::Added);
+
+/// Makes the change, and the rule's answer is the one that the change names.
+pub(crate) fn change<const FIRST: u32, const SECOND: u32>(
+    rt: &impl Abort,
+    table: &SharedTable<FIRST, SECOND>,
+    writer: &mut Writer<FIRST, SECOND>,
+    change: Change,
+    plain: Plain,
+)
+    requires shape { IsShape FIRST SECOND }
+    requires own { writer.old.identity ≡ table.now }
+    ensures own { writer.new.identity ≡ writer.old.identity }
+{
+    let Rule { prefix, hop } = rule_of::<FIRST, SECOND>(plain).expect(rt, "a rule");
+    match change {
+        Change::Add(put) => assert_at(rt, plain, writer.add(table, &prefix, hop), Ok(put)),
+        Change::Delete => assert_at(rt, plain, writer.delete(table, &prefix), Ok(hop)),
+    }
+}
+
+/// The rules, the versions and the token; the groups in use, in limbo and free.
+pub(crate) type Figures = ((usize, u64, u64), (usize, usize, usize));
+
+pub(crate) fn groups(counts: Counts) -> (usize, usize, usize) {
+    (counts.in_use, counts.limbo, counts.free)
+}
+
+pub(crate) fn figures<const FIRST: u32, const SECOND: u32>(
+    table: &SharedTable<FIRST, SECOND>,
+    writer: &mut Writer<FIRST, SECOND>,
+) -> Figures
+    requires own { writer.old.identity ≡ table.now }
+    ensures own { writer.new.identity ≡ writer.old.identity }
+{
+    let sizes = (writer.rules(), writer.versions(), writer.token(table));
+    (sizes, groups(writer.counts()))
+}

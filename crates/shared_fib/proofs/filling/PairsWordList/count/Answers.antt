@@ -1,5 +1,0 @@
-use Rattle.shared_fib.proofs.Packing.{count_is}
-use Rattle.shared_fib.proofs.filling.PairsWordList.count.Goals as goal
-
-pub returns : goal.returns
-returns c = count_is c.self.inside.count c.self.inside.words.items c.args.self.now c.self.view_is
