@@ -120,14 +120,6 @@ impl Groups {
         self.states.len()
     }
 
-    /// The state of a group, whose number is below `len`.
-    pub fn state(&self, group: u32) -> GroupState
-        requires { group < length self.now }
-        ensures { slice_get self.now group ≡ Some result }
-    {
-        self.states[group as usize]
-    }
-
     /// How many groups there are in each state.
     pub fn counts(&self) -> Counts
         ensures in_use { result.in_use ≡ linked_count self.now }
