@@ -9,7 +9,7 @@ pub mod plans;
 mod routes;
 
 pub use listed::{
-    Drawing, Plain, are_hops, are_in_order, draw, drawn_rules, hop_number, probes, rule_of,
+    Drawing, Plain, are_in_order, draw, drawn_rules, hop_number, other_hop, probes, rule_of,
     rules_of,
 };
 pub use many::{MANY, MANY_LIMITS, block, many_plain, many_rules, second_half};

@@ -125,12 +125,18 @@ pub fn hop_number(hop: Option<Hop>) -> Option<u32> {
     }
 }
 
-/// Whether the next hops have these numbers, in this order; none for a miss.
-pub fn are_hops(hops: &[Option<Hop>], numbers: &[Option<u32>]) -> bool {
-    if hops.len() != numbers.len() {
-        return false;
+/// The first place at which the next hops don't have these numbers, none for a miss; where one list is longer, the
+/// end of the other counts. `None` where they have them all.
+pub fn other_hop(hops: &[Option<Hop>], numbers: &[Option<u32>]) -> Option<usize> {
+    for (place, number) in numbers.iter().enumerate() {
+        match hops.get(place) {
+            Some(hop) if hop_number(*hop) == *number => {}
+            _ => return Some(place),
+        }
     }
-    hops.iter()
-        .zip(numbers.iter())
-        .all(|(hop, number)| hop_number(*hop) == *number)
+    if hops.len() == numbers.len() {
+        None
+    } else {
+        Some(numbers.len())
+    }
 }

@@ -6,7 +6,7 @@ use lpm_bits::Hop;
 use lpm_rules::{Put, Rule, Rules};
 use std::alloc::Global;
 use std::process::Abort;
-use test_support::{MANY, Plain, THREE, are_hops, block, hop_number, rule_of};
+use test_support::{MANY, Plain, THREE, block, hop_number, other_hop, rule_of};
 
 fn put(rt: &impl Abort, rules: &mut Rules<24, 8>, plain: Plain) {
     let Rule { prefix, hop } = rule_of::<24, 8>(plain).expect(rt, "a rule");
@@ -26,7 +26,8 @@ fn expects_the_longest(rt: HostRuntime) {
     let mut rules = Rules::new(rt.alloc(), 3);
     put_three(&rt, &mut rules);
     let hops = expect(&rt, rt.alloc(), &rules, &addrs).expect(&rt, "memory");
-    assert!(&rt; are_hops(&hops, &[Some(2), Some(3), Some(1), None]));
+    let numbers = [Some(2), Some(3), Some(1), None];
+    assert_at(&rt, "place", other_hop(&hops, &numbers), None);
     let none = expect(&rt, rt.alloc(), &rules, &[]).expect(&rt, "memory");
     assert_at(&rt, "no addresses", none.len(), 0);
 }

@@ -14,7 +14,7 @@ use std::alloc::Global;
 use std::process::Abort;
 use std::test::Fail;
 use std::thread::Threads;
-use test_support::{Meeting, THREE, are_hops, rule_of};
+use test_support::{Meeting, THREE, other_hop, rule_of};
 
 fn add_three(rt: &impl Abort, fib: &mut Fib<24, 8>) {
     for plain in &THREE {
@@ -39,7 +39,7 @@ static NUMBERS: [Option<u32>; 5] = [Some(2), Some(3), Some(1), None, Some(3)];
 fn assert_five<R: Abort + Threads + Sync>(rt: &R, alloc: Global, fib: &Fib<24, 8>, workers: usize) {
     let answered = bulk_plain(rt, alloc, fib, workers, &FIVE, &Open);
     let hops = answered.expect(rt, "answers");
-    assert_at(rt, workers, are_hops(&hops, &NUMBERS), true);
+    assert_at(rt, (workers, "place"), other_hop(&hops, &NUMBERS), None);
 }
 
 // Among the numbers of workers are more than addresses, and far more.
@@ -92,13 +92,13 @@ fn assert_five_at_desks<R: Abort + Threads + Sync>(
     let again = bulk(rt, alloc, table, writer, desks, &FIVE, &Open);
     match first {
         Ok(hops) => {
-            assert_at(rt, workers, are_hops(&hops, &NUMBERS), true);
-            assert_at(rt, workers, are_hops(&again?, &NUMBERS), true);
+            assert_at(rt, (workers, "place"), other_hop(&hops, &NUMBERS), None);
+            assert_at(rt, (workers, "place"), other_hop(&again?, &NUMBERS), None);
         }
         Err(error) => {
             assert_at(rt, workers, error, BulkError::Memory);
             let hops = again.expect(rt, "answers");
-            assert_at(rt, workers, are_hops(&hops, &NUMBERS), true);
+            assert_at(rt, (workers, "place"), other_hop(&hops, &NUMBERS), None);
         }
     }
     Ok(())

@@ -9,6 +9,12 @@ use lpm_trace::{Actor, Kind, Step};
 use std::fmt::Debug;
 use std::process::Abort;
 
+pub(crate) const WRITER: Actor = Actor::Writer;
+
+pub(crate) const WORKER: Actor = Actor::Worker(0);
+
+pub(crate) const ADDED: Answer = Answer::Put(Put::Added);
+
 // What was found is what is wanted; else the message names the row.
 pub(crate) fn assert_at<R: Debug + Copy, T: PartialEq + Debug + Copy>(
     rt: &impl Abort,

@@ -2,29 +2,18 @@
 // slow program too.
 
 use super::asserts::{
-    Answer, Looked, Numbered, assert_at, assert_step, assert_steps, assert_trace,
+    ADDED, Answer, Looked, Numbered, WORKER, WRITER, assert_at, assert_step, assert_steps,
+    assert_trace,
 };
-use super::plan::{Edit, ONE_GROUP, played};
+use super::plan::{Edit, ONE_GROUP, TWO_GROUPS, played};
 use defer_queue::Reclaimed;
 use interleave::Trace;
 use lpm_limits::{Busy, Config, Refusal};
-use lpm_rules::Put;
 use lpm_trace::{Actor, Deed, Kind};
 use std::alloc::Global;
 use std::process::Abort;
 use std::test::Fail;
 use world_reference::{InitialState, version_at};
-
-const TWO_GROUPS: Config = Config {
-    groups: 2,
-    ..ONE_GROUP
-};
-
-const WRITER: Actor = Actor::Writer;
-
-const WORKER: Actor = Actor::Worker(0);
-
-const ADDED: Answer = Answer::Put(Put::Added);
 
 // The words of hop 7 with depth 4, of hop 5 with depth 8, of hop 6 with depth 8, and of group 0.
 const SEVEN: u64 = 0x1100_0007;

@@ -1,8 +1,8 @@
 //! Traces that were written by hand, which every decider accepts, and planted faults in them, each of which
 //! its decider refuses.
 
-use super::asserts::assert_at;
-use lpm_trace::{Actor, Deed, Kind, Step};
+use super::asserts::{WORKER, WRITER, assert_at};
+use lpm_trace::{Deed, Kind, Step};
 use std::alloc::{AllocError, Global};
 use std::process::Abort;
 use world_reference::{
@@ -220,10 +220,6 @@ macro_rules! step {
         }
     };
 }
-
-const WRITER: Actor = Actor::Writer;
-
-const WORKER: Actor = Actor::Worker(0);
 
 mod two_workers;
 

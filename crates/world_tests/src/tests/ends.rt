@@ -1,6 +1,8 @@
 // Where runs end, and what makes no step.
 
-use super::asserts::{Answer, assert_at, assert_replies, assert_reply, assert_trace};
+use super::asserts::{
+    ADDED, Answer, WORKER, WRITER, assert_at, assert_replies, assert_reply, assert_trace,
+};
 use super::plan::{Edit, ONE_GROUP, judged, planned, played, run};
 use defer_queue::Reclaimed;
 use interleave::{Reply, RunError, Trace};
@@ -12,12 +14,6 @@ use std::process::Abort;
 use std::test::Fail;
 use test_support::bad_limits;
 use test_support::plans::Plan;
-
-const WRITER: Actor = Actor::Writer;
-
-const WORKER: Actor = Actor::Worker(0);
-
-const ADDED: Answer = Answer::Put(Put::Added);
 
 const SYNCHRONIZED: Answer = Answer::Synchronized;
 

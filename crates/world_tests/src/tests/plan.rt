@@ -21,6 +21,12 @@ use world_reference::{JudgeError, judge};
 // One group and one worker; all else by default.
 pub(crate) const ONE_GROUP: Config = Config { groups: 1, ..USUAL };
 
+// One group more.
+pub(crate) const TWO_GROUPS: Config = Config {
+    groups: 2,
+    ..ONE_GROUP
+};
+
 // Whether workers can go through these scripts.
 fn are_sound<const FIRST: u32, const SECOND: u32>(scripts: &[Vec<Deed>]) -> bool
     requires { IsShape FIRST SECOND }

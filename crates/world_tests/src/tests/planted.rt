@@ -1,6 +1,6 @@
 // Runs in which one thing is wrong, which the slow program refuses.
 
-use super::plan::{Edit, ONE_GROUP, assert_refused, hop, judged, planned, prefix};
+use super::plan::{Edit, ONE_GROUP, TWO_GROUPS, assert_refused, hop, judged, planned, prefix};
 use interleave::Trace;
 use lpm_limits::Config;
 use lpm_rules::Change;
@@ -157,10 +157,9 @@ enum Other {
 }
 
 // Two groups, and one waits before some are reclaimed.
-const TWO_GROUPS: Config = Config {
-    groups: 2,
+const ONE_WAITS: Config = Config {
     threshold: 0,
-    ..ONE_GROUP
+    ..TWO_GROUPS
 };
 
 static FOUR_EDITS: [Edit; 4] = [
@@ -207,7 +206,7 @@ fn assert_of_its_plan(
     edits: &[Edit],
     error: JudgeError,
 ) -> Result<(), Fail> {
-    let mut plan = planned(rt, alloc, TWO_GROUPS, edits, &[Deed::Online], bursts)?;
+    let mut plan = planned(rt, alloc, ONE_WAITS, edits, &[Deed::Online], bursts)?;
     let trace = judged(rt, alloc, 0, &plan)?;
     change_plan(rt, &mut plan, other)?;
     assert_refused(rt, other, &plan, (alloc, &trace), error);

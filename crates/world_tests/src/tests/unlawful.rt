@@ -1,7 +1,9 @@
 // Runs that follow their schedules and break one law of traces, which the slow program refuses by that law.
 
 use super::asserts::assert_at;
-use super::plan::{Edit, ONE_GROUP, assert_refused, hop, judged, planned, planned_for, run};
+use super::plan::{
+    Edit, ONE_GROUP, TWO_GROUPS, assert_refused, hop, judged, planned, planned_for, run,
+};
 use super::planted::exchange;
 use interleave::Seen;
 use lpm_limits::Config;
@@ -11,11 +13,6 @@ use std::process::Abort;
 use std::test::Fail;
 use test_support::plans::Plan;
 use world_reference::{JudgeError, judge};
-
-const TWO_GROUPS: Config = Config {
-    groups: 2,
-    ..ONE_GROUP
-};
 
 const TWO_WORKERS: Config = Config {
     workers: 2,
