@@ -5,7 +5,6 @@ use Rattle.fib.specs.Fib.{IsHopOrDefault}
 use Rattle.saxiko_c.proofs.Fills.{filled}
 use Rattle.saxiko_c.proofs.table.lookup_all.Goals as goal
 
--- src/table.rt:117:5
 pub loop-i-preserved : goal.loop-i-preserved
 loop-i-preserved c = record {
   bound = let low = c.loop-i-test.true in rw (length-set c.loop-i.hops c.loop-i.i c.hop_or.result) (omega (arith, low));

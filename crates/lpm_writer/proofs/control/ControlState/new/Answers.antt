@@ -6,7 +6,6 @@ use Rattle.lpm_writer.specs.Rest.{blank_state, IsResting}
 use Rattle.lpm_writer.proofs.Initial.{opened_rests, new_books}
 use Rattle.lpm_writer.proofs.control.ControlState.new.Goals as goal
 
--- src/opening.rt:23:5
 pub returns-clause-rests : goal.returns-clause-rests
 returns-clause-rests g c =
     let f = g.row.FIRST in
