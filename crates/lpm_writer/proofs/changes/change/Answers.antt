@@ -1,4 +1,4 @@
-use Rattle.std.proofs.Common.{arith, ◌≡◌, ℕ, suc, Option, ◌+◌, ◌<◌, ◌≤◌, ◌^◌, refl, sym, ap, subst, ◌∙◌, List, [], ◌∷◌, ◌++◌, length}
+use Rattle.std.proofs.Common.{arith, length-drop, inl, inr, drop, ◌≡◌, ℕ, suc, Option, ◌+◌, ◌<◌, ◌≤◌, ◌^◌, refl, sym, ap, subst, ◌∙◌, List, [], ◌∷◌, ◌++◌, length}
 use Rattle.lpm_limits.specs.declared.config.Config.{Config}
 use Rattle.lpm_rules.specs.RuleMap.{RuleList}
 use Rattle.lpm_update.specs.Tied.{IsTied}
@@ -23,16 +23,20 @@ use Rattle.lpm_update.specs.declared.update.Update.{Update}
 use Rattle.lpm_writer.specs.declared.pool.GroupPool.{GroupPool}
 use Rattle.lpm_writer.specs.declared.control.ControlState.{ControlState}
 use Rattle.lpm_writer.specs.GroupsMatch.{GroupsMatchSteps, MayReclaim, OnlyChecks}
-use Rattle.lpm_writer.specs.Traced.{WithSteps, by_writer}
+use Rattle.lpm_writer.specs.Traced.{by_writer}
 use Rattle.std.proofs.Math.ListN.{length-set}
 use Rattle.std.specs.Option.{option_map}
 use Rattle.lpm_groups.specs.States.{is_linked}
 use Rattle.lpm_writer.specs.Limbo.{AreWaiting, IsFreed, IsQueued, tokens_of}
 use Rattle.lpm_writer.proofs.LimboItems.{waiting_set, absent_other, linked_limbo, MadeRoom, freed_within, no_more_room, room_above, room_below, retired_queue, retired_room, retired_linked, retired_others, retired_gone}
 use Rattle.lpm_writer.proofs.Reclaims.{may_bump, keeps_bumped, may_make_room, still_same, bumped_on, tokens_append}
-use Rattle.fib_model.specs.State.{MakesRoom}
+use Rattle.fib_model.specs.State.{MakesRoom, Reclaims}
+use Rattle.defer_queue.specs.declared.Reclaimed.{Reclaimed}
+use Rattle.lpm_writer.specs.Commands.{FreesBy}
+use Rattle.lpm_groups.proofs.Marking.{Retires-set}
 use Rattle.std.proofs.lemmas.List.{length-map}
-use Rattle.lpm_writer.proofs.changes.change.Goals.{After-open_update, After-bump-token, After-retire-in-Some, then-len-control, else-len-control}
+use Rattle.lpm_writer.proofs.changes.change.Goals.{After-open_update, After-bump-token, After-len}
+use Rattle.lpm_writer.proofs.changes.change.Lts.{Step-Joined1}
 use Rattle.lpm_writer.proofs.changes.change.Goals as goal
 
 -- the update has begun
@@ -158,113 +162,140 @@ retire-requires-in-Some g c =
     let at = goal.at.retire-requires-in-Some g c in
     let x = c.loop-group.control.pool in
     let linked = (unlinked g at.After-bump-token (begins g at.After-open_update)).0 in
-    let room = λ (n : ℕ). retired_room x.groups x.queue c.in-Some.group linked.0 n linked.1 c.loop-group.invariant.under_way.queued in
-    let HasRoom = λ (l : ControlState g.row.FIRST g.row.SECOND). length l.pool.queue.items < l.pool.queue.capacity in
-    elim c.if-len-control.branch [
-      | then-len-control w ↦ subst HasRoom (sym w.control-is) (subst (λ (q : Queue). length q.items < q.capacity) (sym w.free_waiting.ensures.queue) (room w.free_waiting.result.freed))
-      | else-len-control w ↦ subst HasRoom (sym w.control-is) (room 0)
-    ]
+    let room : length x.queue.items < x.queue.capacity = retired_room x.groups x.queue c.in-Some.group linked.0 0 linked.1 c.loop-group.invariant.under_way.queued in
+    grind (arith, length-drop {A = ℕ × ℕ})
+
+-- what the writer keeps, and the memory, where room was made: some of the groups that wait were freed, where
+-- more than the threshold wait, and else all is as it was
+data Came (g : Over) (x : ControlState g.row.FIRST g.row.SECOND) (states : List GroupState) (m : g.row.M.Denot) (long : ℕ) (y : ControlState g.row.FIRST g.row.SECOND) (z : g.row.M.Denot) : Type 0 where
+  by_freeing : (r : Reclaimed) (pool : GroupPool) (last : g.row.M.Denot) → y ≡ record x { pool = pool } → z ≡ last → x.config.threshold < long
+      → FreesBy g.M.Memory.did m (record x.pool { groups = states }) last pool (λ s a limbo left b. Reclaims (by_writer g.M.Memory.does s) a x.config.reclaim_max limbo r.freed r.stopped left b)
+      → pool.queue ≡ record x.pool.queue { items = drop r.freed x.pool.queue.items } → AreWaiting pool.groups pool.queue.items → IsFreed states x.pool.queue.items r.freed pool.groups
+      → Came g x states m long y z
+  by_nothing : y ≡ record x { pool = record x.pool { groups = states } } → z ≡ m → long ≤ x.config.threshold → Came g x states m long y z
+
+-- where the ways through the test meet. Rattle counts these types, and names the step after the test: `search`
+-- finds it by the type, so a test that is written another way leaves the proof as it is
+abbrev Joined : (g : Over) → After-len g → Type 0
+Joined g c = Step-Joined1 _ _ _ _ _ _ _ _ _ _ _ _ _ _ c
+
+came : (g : Over) (c : After-len g) (j : Joined g c) → Came g c.loop-group.control c.retire.new.self c.bump-token.new.self c.len.result j.control j.memory
+came g c j = elim j.branch-raw [
+  | inl w ↦
+      let above : c.loop-group.control.config.threshold < c.len.result = omega arith in
+      search (by_freeing, w)
+  | inr w ↦
+      let below : c.len.result ≤ c.loop-group.control.config.threshold = omega arith in
+      search (by_nothing, w)
+]
 
 -- room was made for one more, and what the writer keeps besides is as it was
 abbrev HasRoomFor : (g : Over) → ControlState g.row.FIRST g.row.SECOND → ℕ → ControlState g.row.FIRST g.row.SECOND → Type 0
 HasRoomFor g old n new = MadeRoom old.pool n new.pool × (new.config ≡ old.config) × (new.rules ≡ old.rules) × (new.versions ≡ old.versions)
 
-made : (g : Over) (c : After-retire-in-Some g) → let old = c.loop-group.control.pool in
-    let n = c.in-Some.group in
-    (block : ℕ) → IsLinkedTo old.groups n block → (s : InitialState) (steps : List WriterStep) (held : Option ℕ) → g.M.Memory.did c.run.new.cells s steps → HasUnlinked s steps old n held
-    → HasRoomFor g c.loop-group.control n c.if-len-control.control
-made g c block linked s steps held did h =
-    let x = c.loop-group.control in
-    let old = x.pool in
-    let n = c.in-Some.group in
-    elim c.if-len-control.branch [
-      | then-len-control w ↦
-          let r = w.free_waiting in
-          let on = bumped g c.run.new.cells c.bump-token.new.self old n c.retire.new.self c.bump-token.ensures.does c.retire.ensures s steps held did h in
-          let freed = r.ensures.reclaims s (BumpToken ∷ steps) ((n, suc (state_after s steps).token) ∷ []) held on.0 on.1 on.2 in
-          subst (HasRoomFor g x n) (sym w.control-is) (
-            record {
-              n = r.result.freed;
-              few = freed_within old.queue.items freed.4;
-              queue = r.ensures.queue;
-              waits = r.ensures.waiting;
-              freed = subst (λ ys. IsFreed ys old.queue.items r.result.freed r.new.pool.groups) c.retire.ensures r.ensures.freed;
-            },
-            refl,
-            refl,
-            refl,
-          )
-      | else-len-control w ↦
-          subst (HasRoomFor g x n) (sym w.control-is)
-          (no_more_room old (record old { groups = c.retire.new.self }) n (ap (λ xs. record old { groups = xs }) c.retire.ensures) (still_waiting old n block linked c.loop-group.invariant.under_way.queued), refl, refl, refl)
-    ]
+made : (g : Over) (x y : ControlState g.row.FIRST g.row.SECOND) (n : ℕ) (states : List GroupState) (b m z : g.row.M.Denot) (long : ℕ) → Came g x states m long y z
+    → g.M.Memory.does b BumpToken m → states ≡ slice_set x.pool.groups n Limbo → AreWaiting (slice_set x.pool.groups n Limbo) x.pool.queue.items
+    → (s : InitialState) (steps : List WriterStep) (held : Option ℕ) → g.M.Memory.did b s steps → HasUnlinked s steps x.pool n held → HasRoomFor g x n y
+made g x y n states b m z long (by_freeing r pool last same there above reclaims queue waiting freed) does set waits s steps held did h =
+    let on = bumped g b m x.pool n states does set s steps held did h in
+    let done = reclaims s (BumpToken ∷ steps) ((n, suc (state_after s steps).token) ∷ []) held on.0 on.1 on.2 in
+    subst (HasRoomFor g x n) (sym same) (
+      record { n = r.freed; few = freed_within x.pool.queue.items done.4; queue = queue; waits = waiting; freed = subst (λ ys. IsFreed ys x.pool.queue.items r.freed pool.groups) set freed },
+      refl,
+      refl,
+      refl,
+    )
+made g x y n states b m z long (by_nothing same there below) does set waits s steps held did h =
+    subst (HasRoomFor g x n) (sym same) (no_more_room x.pool (record x.pool { groups = states }) n (ap (λ xs. record x.pool { groups = xs }) set) waits, refl, refl, refl)
 
-pub loop-group-preserved : goal.loop-group-preserved
-loop-group-preserved g c =
+-- by which steps the memory came to be so
+abbrev WentTo : (g : Over) → Config → InitialState → List WriterStep → Option ℕ → GroupPool → ℕ → g.row.M.Denot → GroupPool → g.row.M.Denot → Type 0
+WentTo g config s steps held x n m y z =
+    let tail = (n, suc (state_after s steps).token) ∷ [] in
+    (later : List WriterStep) × g.M.Memory.did z s later × OnlyChecks s (BumpToken ∷ steps) later
+    × GroupsMatchSteps s later y.groups (y.queue.items ++ tail) y.passed held × MakesRoom (by_writer g.M.Memory.does s) config (m, BumpToken ∷ steps) (tokens_of x.queue.items) (tokens_of y.queue.items) (z, later)
+
+went : (g : Over) (x y : ControlState g.row.FIRST g.row.SECOND) (n : ℕ) (states : List GroupState) (b m z : g.row.M.Denot) (long : ℕ) → Came g x states m long y z
+    → g.M.Memory.does b BumpToken m → states ≡ slice_set x.pool.groups n Limbo → long ≡ length x.pool.queue.items
+    → (s : InitialState) (steps : List WriterStep) (held : Option ℕ) → g.M.Memory.did b s steps → HasUnlinked s steps x.pool n held → WentTo g x.config s steps held x.pool n m y.pool z
+went g x y n states b m z long (by_freeing r pool last same there above reclaims queue waiting freed) does set is s steps held did h =
+    let on = bumped g b m x.pool n states does set s steps held did h in
+    let done = reclaims s (BumpToken ∷ steps) ((n, suc (state_after s steps).token) ∷ []) held on.0 on.1 on.2 in
+    let limbo = tokens_of x.pool.queue.items in
+    let more : x.config.threshold < length limbo = omega (arith, above, is, length-map x.pool.queue.items (λ item. item.1)) in
+    let room = room_above (by_writer g.M.Memory.does s) x.config (m, BumpToken ∷ steps) (last, done.0) limbo (tokens_of pool.queue.items) r.freed r.stopped more done.4 in
+    subst (λ (l : ControlState g.row.FIRST g.row.SECOND). WentTo g x.config s steps held x.pool n m l.pool z) (sym same)
+    (subst (WentTo g x.config s steps held x.pool n m pool) (sym there) (done.0, done.1, done.2, done.3, room))
+went g x y n states b m z long (by_nothing same there below) does set is s steps held did h =
+    let on = bumped g b m x.pool n states does set s steps held did h in
+    let limbo = tokens_of x.pool.queue.items in
+    let less : length limbo ≤ x.config.threshold = omega (arith, below, is, length-map x.pool.queue.items (λ item. item.1)) in
+    let room = room_below (by_writer g.M.Memory.does s) x.config (m, BumpToken ∷ steps) limbo less in
+    subst (λ (l : ControlState g.row.FIRST g.row.SECOND). WentTo g x.config s steps held x.pool n m l.pool z) (sym same)
+    (subst (WentTo g x.config s steps held x.pool n m (record x.pool { groups = states })) (sym there) (BumpToken ∷ steps, on.0, still_same s (BumpToken ∷ steps) x.pool.queue.items on.2, on.1, room))
+
+-- the group goes last, and the turn is over
+turned : (g : Over) (c : After-len g) (begins : Begins g c.open_update.new.self c.args.update c.args.control.now.pool)
+    → let x = c.loop-group.control in
+    let n = c.in-Some.group in
+    ((block : ℕ) × IsLinkedTo x.pool.groups n block) × ((initial : InitialState) × (steps : List WriterStep) × (held : Option ℕ) × g.M.Memory.did c.run.new.cells initial steps × HasUnlinked initial steps x.pool n held)
+    → (j : Joined g c) (q : Queue) → q ≡ record j.control.pool.queue { items = j.control.pool.queue.items ++ (n, c.bump-token.result) ∷ [] }
+    → record {
+      under_way : IsUnderWayAt (memory g) g.row.FIRST g.row.SECOND j.control.config c.open_update.new.self c.args.control.now.pool c.args.update j.memory (record j.control.pool { queue = q }) c.run.new.self;
+      config : j.control.config ≡ c.args.control.now.config;
+      rules : j.control.rules ≡ c.args.control.now.rules;
+      versions : j.control.versions ≡ c.args.control.now.versions;
+    }
+turned g c begins unlinked j q last =
     let x = c.loop-group in
     let old = x.control.pool in
     let n = c.in-Some.group in
-    let y = c.if-len-control.control.pool in
+    let y = j.control.pool in
+    let z = j.memory in
+    let came = came g c j in
     let does = g.M.Memory.does in
-    let config = x.control.config in
-    let at = goal.at.loop-group-preserved g c in
-    let begins = begins g at.After-open_update in
-    let unlinked = unlinked g at.After-bump-token begins in
     let linked = unlinked.0 in
     let queued = x.invariant.under_way.queued in
     let h = unlinked.1 in
-    let done = made g at.After-retire-in-Some linked.0 linked.1 h.0 h.1 h.2 h.3 h.4 in
+    let bump = c.bump-token.ensures.does in
+    let done = made g x.control j.control n c.retire.new.self c.run.new.cells c.bump-token.new.self z c.len.result came bump c.retire.ensures (still_waiting old n linked.0 linked.1 queued) h.0 h.1 h.2 h.3 h.4 in
     let made = done.0 in
-    let retires : Retiring g c.run.new.cells old n config c.if-len-control.memory (record y { queue = c.retire-in-Some.new.self }) = λ s steps held did h.
+    let retires : Retiring g c.run.new.cells old n x.control.config z (record y { queue = q }) = λ s steps held did h.
     let now = (state_after s steps).token in
     let token : c.bump-token.result ≡ suc now = let e = (g.met.M.Memory.shows c.run.new.cells s steps did).1 in omega (arith, e, c.bump-token.ensures.value) in
-    let limbo = tokens_of old.queue.items in
-    let long : c.len.result ≡ length limbo = omega (arith, c.len.ensures.len, length-map old.queue.items (λ item. item.1)) in
-    let tail = (n, suc now) ∷ [] in
-    let start : WithSteps g.row.M.Denot = (c.bump-token.new.self, BumpToken ∷ steps) in
-    let on = bumped g c.run.new.cells c.bump-token.new.self old n c.retire.new.self c.bump-token.ensures.does c.retire.ensures s steps held did h in
-    let Went = λ (p : GroupPool) (m : g.row.M.Denot). (later : List WriterStep) × g.M.Memory.did m s later × OnlyChecks s (BumpToken ∷ steps) later
-    × GroupsMatchSteps s later p.groups (p.queue.items ++ tail) p.passed held × MakesRoom (by_writer does s) config start limbo (tokens_of p.queue.items) (m, later) in
-    let WentBy = λ (l : ControlState g.row.FIRST g.row.SECOND). Went l.pool c.if-len-control.memory in
-    let went : Went y c.if-len-control.memory = elim c.if-len-control.branch [
-      | then-len-control w ↦
-          let r = w.free_waiting in
-          let freed = r.ensures.reclaims s (BumpToken ∷ steps) tail held on.0 on.1 on.2 in
-          let room = room_above (by_writer does s) config start (r.new.memory, freed.0) limbo (tokens_of r.new.pool.queue.items) r.result.freed r.result.stopped
-          (omega (arith, long, w.if-len-control.true)) freed.4 in
-          subst WentBy (sym w.control-is) (subst (Went r.new.pool) (sym w.memory-is) (freed.0, freed.1, freed.2, freed.3, room))
-      | else-len-control w ↦
-          let room = room_below (by_writer does s) config start limbo (omega (arith, long, w.if-len-control.false)) in
-          subst WentBy (sym w.control-is)
-          (subst (Went (record old { groups = c.retire.new.self })) (sym w.memory-is) (BumpToken ∷ steps, on.0, still_same s (BumpToken ∷ steps) old.queue.items on.2, on.1, room))
-    ] in
-    let items : c.retire-in-Some.new.self.items ≡ y.queue.items ++ tail = ap (λ (q : Queue). q.items) c.retire-in-Some.ensures ∙ ap (λ t. y.queue.items ++ (n, t) ∷ []) token in (
+    let went = went g x.control j.control n c.retire.new.self c.run.new.cells c.bump-token.new.self z c.len.result came bump c.retire.ensures c.len.ensures.len s steps held did h in
+    let items : q.items ≡ y.queue.items ++ (n, suc now) ∷ [] = ap (λ (q : Queue). q.items) last ∙ ap (λ t. y.queue.items ++ (n, t) ∷ []) token in (
       went.0,
       went.1,
       bumped_on s steps went.0 old n held h went.2,
       subst (λ xs. GroupsMatchSteps s went.0 y.groups xs y.passed held) (sym items) went.3,
-      (start, tokens_of y.queue.items, (c.bump-token.ensures.does, refl), went.4, ap tokens_of items ∙ tokens_append y.queue.items n (suc now)),
+      ((c.bump-token.new.self, BumpToken ∷ steps), tokens_of y.queue.items, (bump, refl), went.4, ap tokens_of items ∙ tokens_append y.queue.items n (suc now)),
     ) in
     record {
-      under_way = subst (λ (k : Config). IsUnderWayAt (memory g) g.row.FIRST g.row.SECOND k c.open_update.new.self c.args.control.now.pool c.args.update c.if-len-control.memory (record y { queue = c.retire-in-Some.new.self }) c.run.new.self) (sym done.1)
-          (run_retired (memory g) g.row.FIRST g.row.SECOND config c.open_update.new.self c.args.control.now.pool c.args.update begins
-          x.memory old x.update x.invariant.under_way n c.run.new.self c.run.new.cells c.in-Some.ensures
-          c.if-len-control.memory (record y { queue = c.retire-in-Some.new.self }) retires
-          (subst (IsQueued y.groups) (sym c.retire-in-Some.ensures) (retired_queue old y n linked.0 c.bump-token.result linked.1 queued made))
+      under_way = subst (λ (k : Config). IsUnderWayAt (memory g) g.row.FIRST g.row.SECOND k c.open_update.new.self c.args.control.now.pool c.args.update z (record y { queue = q }) c.run.new.self) (sym done.1)
+          (run_retired (memory g) g.row.FIRST g.row.SECOND x.control.config c.open_update.new.self c.args.control.now.pool c.args.update begins
+          x.memory old x.update x.invariant.under_way n c.run.new.self c.run.new.cells c.in-Some.ensures z (record y { queue = q }) retires
+          (subst (IsQueued y.groups) (sym last) (retired_queue old y n linked.0 c.bump-token.result linked.1 queued made))
           (made.freed.as_many ∙ length-set old.groups n Limbo) (retired_linked old y n linked.0 linked.1 made) (retired_others old y n made) (retired_gone old y n linked.0 linked.1 made));
       config = done.1 ∙ x.invariant.config;
       rules = done.2 ∙ x.invariant.rules;
       versions = done.3 ∙ x.invariant.versions;
     }
 
+pub loop-group-preserved : goal.loop-group-preserved
+loop-group-preserved g c =
+    let at = goal.at.loop-group-preserved g c in
+    let begins = begins g at.After-open_update in
+    let j : Joined g at.After-len = search in
+    turned g at.After-len begins (unlinked g at.After-bump-token begins) j _ c.retire-in-Some.ensures
+
 pub loop-group-smaller : goal.loop-group-smaller
 loop-group-smaller g c =
     let at = goal.at.loop-group-smaller g c in
     let x = c.loop-group.control.pool in
-    let unlinked = unlinked g at.After-bump-token (begins g at.After-open_update) in
-    let linked = unlinked.0 in
-    let h = unlinked.1 in
-    omega (arith, retired_linked x c.if-len-control.control.pool c.in-Some.group linked.0 linked.1 (made g at.After-retire-in-Some linked.0 linked.1 h.0 h.1 h.2 h.3 h.4).0)
+    let linked = (unlinked g at.After-bump-token (begins g at.After-open_update)).0 in
+    let one = (Retires-set x.groups c.in-Some.group linked.0 linked.1).linked in
+    grind (arith, one)
 
 pub close_update-requires : goal.close_update-requires
 close_update-requires g c =
