@@ -1,4 +1,4 @@
-use Rattle.std.proofs.Common.{◌≡◌, ◌+◌, ◌^◌, ◌<◌, inl, lit<, sym, ap, subst, ◌∙◌, List, length, rules}
+use Rattle.std.proofs.Common.{◌≡◌, ◌+◌, ◌^◌, ◌<◌, inl, lit<, refl, sym, ap, subst, ◌∙◌, List, length, rules}
 use Rattle.std.specs.Prelude.{IsSome, IsTrue, ◌↔◌, ◌/◌, Ok, Err}
 use Rattle.std.proofs.lemmas.Nat.{shr_below}
 use Rattle.lpm_bits.specs.Network.{IsNetwork}
@@ -9,18 +9,19 @@ use Rattle.fib_model.specs.Outcomes.{Adds, groups_in_use}
 use Rattle.fib_model.specs.State.{HasTokens}
 use Rattle.lpm_update.specs.Linked.{group_at}
 use Rattle.lpm_update.specs.Tied.{IsTied}
+use Rattle.lpm_trace.specs.declared.step.RuleChange.{RuleChange}
 use Rattle.lpm_trace.specs.declared.step.RuleChange.TheVariants.{Put as Puts}
 use Rattle.lpm_trace.specs.declared.step.WriterStep.{WriterStep}
 use Rattle.lpm_trace.specs.States.{InitialState, state_after}
 use Rattle.lpm_writer.specs.Take.{Finds, LinksLeast}
 use Rattle.lpm_writer.specs.Traced.{by_writer}
 use Rattle.lpm_writer.specs.Rest.{IsResting, IsDue, state_of}
-use Rattle.lpm_writer.specs.Commands.{Rests}
+use Rattle.lpm_writer.specs.Commands.{Commands, Rests}
 use Rattle.lpm_writer.proofs.StepsAlone.{after_find}
 use Rattle.lpm_writer.proofs.Rests.{linked_resting, between_take, has_tokens, rests_still}
 use Rattle.lpm_writer.proofs.Additions.{absent, found_due, found_linked, found_adds, none_adds, put_room, taken_back}
 use Rattle.lpm_writer.proofs.control.add_rule.Given.{Over}
-use Rattle.lpm_writer.proofs.control.add_rule.Goals.{After-from-in-Ok-group_for-2}
+use Rattle.lpm_writer.proofs.control.add_rule.Goals.{After-add-update, After-change}
 use Rattle.lpm_writer.proofs.control.add_rule.Goals as goal
 
 pub is_linked-linked-requires : goal.is_linked-linked-requires
@@ -42,13 +43,14 @@ group_for-requires g c =
       ),
     )
 
--- the group was found by checks alone, and the update is due
-ready : (g : Over) (c : After-from-in-Ok-group_for-2 g) (initial : InitialState) (steps : List WriterStep) → g.M.Memory.did c.args.memory.now initial steps → Rests initial steps c.args.control.now
+-- the group was found by checks alone, and the update is due, for the change of the rules that puts this one in
+ready : (g : Over) (c : After-add-update g) (put : RuleChange) → put ≡ Puts c.args.prefix.now.bits c.args.prefix.now.len c.args.hop
+    → (initial : InitialState) (steps : List WriterStep) → g.M.Memory.did c.args.memory.now initial steps → Rests initial steps c.args.control.now
     → (later : List WriterStep) × g.M.Memory.did c.group_for.new.memory initial later
-    × IsDue g.row.FIRST g.row.SECOND initial later c.args.control.now.config c.put.new.self c.group_for.new.pool c.args.control.now.versions c.add-update.result (Puts c.from.result c.from-in-Ok-group_for.result c.from-in-Ok-group_for-2.result)
+    × IsDue g.row.FIRST g.row.SECOND initial later c.args.control.now.config c.put.new.self c.group_for.new.pool c.args.control.now.versions c.add-update.result put
     × Finds (by_writer g.M.Memory.does initial) g.row.FIRST g.row.SECOND (state_after initial steps).words.firsts c.args.prefix.now (c.is_linked-linked.new.memory, steps) c.args.control.now.pool (Ok c.in-Ok-group_for.group) (c.group_for.new.memory, later) c.group_for.new.pool
     × HasTokens (by_writer g.M.Memory.does initial) c.args.control.now.config (state_of c.args.control.now.rules.rules (c.is_linked-linked.new.memory, steps) c.args.control.now.pool c.args.control.now.versions)
-ready g c initial steps did rest =
+ready g c put is initial steps did rest =
     let f = g.row.FIRST in
     let s = g.row.SECOND in
     let k = g.M.Memory in
@@ -67,11 +69,10 @@ ready g c initial steps did rest =
     let finds = subst (λ (V : Words). Finds t f s V.firsts p x l.pool (Ok group) (y, found.0) mid) (g.met.M.Memory.shows m initial steps began).0 found.4 in
     let nothing = after_find k.does initial f s (state_after initial steps).words.firsts p x l.pool (Ok group) (y, found.0) mid finds in
     let sound : IsNetwork (f + s) p × (c.args.hop < 2 ^ 24) = (c.bits-bits.ensures.network, subst (λ n. n < 2 ^ 24) c.number-number.ensures.value c.number-number.ensures.bound) in
-    let is : Puts c.from.result c.from-in-Ok-group_for.result c.from-in-Ok-group_for-2.result ≡ Puts p.bits p.len c.args.hop = cc (c.from.ensures, c.bits-bits.ensures.value, c.from-in-Ok-group_for.ensures, c.len-len.ensures.value, c.from-in-Ok-group_for-2.ensures, c.number-number.ensures.value) in
     let left = has_tokens t l.config (state_of l.rules.rules x l.pool l.versions) c.is_exhausted.result c.if-is_exhausted.false (c.is_exhausted.ensures initial steps did) in (
       found.0,
       found.1,
-      found_due f s initial steps l.config l.rules l.pool l.versions rest p low t x c.args.hop group (y, found.0) mid found.0 c.put.new.self u.result (Puts c.from.result c.from-in-Ok-group_for.result c.from-in-Ok-group_for-2.result)
+      found_due f s initial steps l.config l.rules l.pool l.versions rest p low t x c.args.hop group (y, found.0) mid found.0 c.put.new.self u.result put
           finds found.2 nothing found.3 c.in-Ok-group_for.ensures.queued u.ensures.begun u.ensures.fills u.ensures.held c.in-Ok.ensures.ok is sound left,
       finds,
       left,
@@ -80,11 +81,16 @@ ready g c initial steps did rest =
 pub change-requires : goal.change-requires
 change-requires g c =
     let r = c.requires.rests in
-    let d = ready g (goal.at.change-requires g c).After-from-in-Ok-group_for-2 r.0 r.1 r.2 r.3 in
+    let d = ready g (goal.at.change-requires g c).After-add-update _ (cc) r.0 r.1 r.2 r.3 in
     (lit< tt, (r.0, d.0, d.1, d.2))
 
-pub returns-in-Ok-group_for-clause-adds : goal.returns-in-Ok-group_for-clause-adds
-returns-in-Ok-group_for-clause-adds g c = λ initial steps did rest.
+-- what the contract says of a rule that was put in
+abbrev Added : (g : Over) → After-change g → Type 0
+Added g c = Commands g.M.Memory.did c.args.control.now c.args.memory.now c.change.new.control c.change.new.memory
+    (λ s x z. Adds (by_writer g.M.Memory.does s) g.row.FIRST g.row.SECOND c.args.control.now.config x c.args.prefix.now c.args.hop (Ok c.in-Ok.put) z)
+
+added : (g : Over) (c : After-change g) → Added g c
+added g c = λ initial steps did rest.
     let f = g.row.FIRST in
     let s = g.row.SECOND in
     let l = c.args.control.now in
@@ -96,8 +102,9 @@ returns-in-Ok-group_for-clause-adds g c = λ initial steps did rest.
     let then = c.change.ensures in
     let put = c.in-Ok.ensures in
     let low = shr_below p.bits f s c.bits-bits.ensures.network.1 in
-    let d = ready g (goal.at.returns-in-Ok-group_for-clause-adds g c).After-from-in-Ok-group_for-2 initial steps did rest in
-    let made = then.changed initial d.0 d.1 d.2 in
+    let at : After-add-update g = search in
+    let d = ready g at (Puts p.bits p.len c.args.hop) refl initial steps did rest in
+    let made = then.changed initial d.0 d.1 (subst (IsDue f s initial d.0 l.config c.put.new.self c.group_for.new.pool l.versions c.add-update.result) (cc) d.2) in
     let put_in = ap (λ (r : RuleList). r.rules) (then.rules ∙ put.ok) in
     let linked = linked_resting f s initial made.0 new.config new.rules new.pool new.versions made.2 in (
       made.0,
@@ -108,8 +115,8 @@ returns-in-Ok-group_for-clause-adds g c = λ initial steps did rest.
           d.3 made.3 linked put_in then.versions c.in_default-put.not-Unchanged put.replaced.0 (λ e. put.new.0 (inl e)) d.4),
     )
 
-pub returns-in-Ok-group_for-clause-least : goal.returns-in-Ok-group_for-clause-least
-returns-in-Ok-group_for-clause-least g c =
+added_least : (g : Over) (c : After-change g) → LinksLeast c.args.control.now.pool.groups c.change.new.control.pool.groups
+added_least g c =
     let f = g.row.FIRST in
     let s = g.row.SECOND in
     let l = c.args.control.now in
@@ -118,13 +125,28 @@ returns-in-Ok-group_for-clause-least g c =
     let new = c.change.new.control in
     let then = c.change.ensures in
     let low = shr_below p.bits f s c.bits-bits.ensures.network.1 in
-    let d = ready g (goal.at.returns-in-Ok-group_for-clause-least g c).After-from-in-Ok-group_for-2 r.0 r.1 r.2 r.3 in
-    let made = then.changed r.0 d.0 d.1 d.2 in
+    let at : After-add-update g = search in
+    let d = ready g at (Puts p.bits p.len c.args.hop) refl r.0 r.1 r.2 r.3 in
+    let made = then.changed r.0 d.0 d.1 (subst (IsDue f s r.0 d.0 l.config c.put.new.self c.group_for.new.pool l.versions c.add-update.result) (cc) d.2) in
     let x : g.row.M.Denot × List WriterStep = (c.is_linked-linked.new.memory, r.1) in
     let was = found_linked f s r.0 r.1 l.config l.rules l.pool l.versions r.3 p low (by_writer g.M.Memory.does r.0) x c.args.hop c.in-Ok-group_for.group (c.group_for.new.memory, d.0) c.group_for.new.pool d.3 in
     let now = linked_resting f s r.0 made.0 new.config new.rules new.pool new.versions made.2 in
     let put_in = ap (λ (r : RuleList). r.rules) (then.rules ∙ c.in-Ok.ensures.ok) in
     subst (LinksLeast l.pool.groups) (sym (then.stays (now ∙ ap (groups_in_use f s) put_in ∙ sym was))) c.in-Ok-group_for.ensures.least
+
+-- the return's goal has the first name where it ends an arm of a `match`, and the second where it ends the
+-- function. Rattle takes the answer that it asks for
+pub returns-in-Ok-group_for-clause-adds : (g : Over) (c : After-change g) → Added g c
+returns-in-Ok-group_for-clause-adds = added
+
+pub returns-clause-adds : (g : Over) (c : After-change g) → Added g c
+returns-clause-adds = added
+
+pub returns-in-Ok-group_for-clause-least : (g : Over) (c : After-change g) → LinksLeast c.args.control.now.pool.groups c.change.new.control.pool.groups
+returns-in-Ok-group_for-clause-least = added_least
+
+pub returns-clause-least : (g : Over) (c : After-change g) → LinksLeast c.args.control.now.pool.groups c.change.new.control.pool.groups
+returns-clause-least = added_least
 
 pub returns-in-Err-clause-adds : goal.returns-in-Err-clause-adds
 returns-in-Err-clause-adds g c = λ initial steps did rest.
