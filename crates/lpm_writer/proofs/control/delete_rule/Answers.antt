@@ -48,8 +48,8 @@ abbrev Deleted : (g : Over) → After-change g → Type 0
 Deleted g c = Commands g.M.Memory.did c.args.control.now c.args.memory.now c.change.new.control c.change.new.memory
     (λ s x z. Deletes (by_writer g.M.Memory.does s) g.row.FIRST g.row.SECOND c.args.control.now.config x c.args.prefix.now (Ok c.in-Ok.hop) z)
 
-deleted : (g : Over) (c : After-change g) → Deleted g c
-deleted g c = λ initial steps did rest.
+pub returns-in-Ok-clause-deletes : (g : Over) (c : After-change g) → Deleted g c
+returns-in-Ok-clause-deletes g c = λ initial steps did rest.
     let l = c.args.control.now in
     let new = c.change.new.control in
     let then = c.change.ensures in
@@ -66,11 +66,3 @@ deleted g c = λ initial steps did rest.
             (c.args.memory.now, steps) (c.change.new.memory, made.0) rest made.2 gone then.versions (left g at initial steps did) made.3,
       ),
     )
-
--- the return's goal has the first name where it ends an arm of a `match`, and the second where it ends the
--- function. Rattle takes the answer that it asks for
-pub returns-in-Ok-clause-deletes : (g : Over) (c : After-change g) → Deleted g c
-returns-in-Ok-clause-deletes = deleted
-
-pub returns-clause-deletes : (g : Over) (c : After-change g) → Deleted g c
-returns-clause-deletes = deleted
