@@ -57,12 +57,7 @@ fn assert_call(rt: &impl Abort, groups: &mut Groups, states: &mut [GroupState], 
     }
 }
 
-fn assert_counts(rt: &impl Abort, groups: &Groups, (in_use, limbo, free): (usize, usize, usize)) {
-    let counts = Counts {
-        in_use,
-        limbo,
-        free,
-    };
+fn assert_counts(rt: &impl Abort, groups: &Groups, counts: Counts) {
     assert_at(rt, "counts", groups.counts(), counts);
 }
 
@@ -73,7 +68,12 @@ fn assert_calls(rt: &impl Abort, groups: &mut Groups, states: &mut [GroupState],
     assert_at(rt, "groups", groups.len(), states.len());
     for (call, in_use, limbo, free) in rows {
         assert_call(rt, groups, states, *call);
-        assert_counts(rt, groups, (*in_use, *limbo, *free));
+        let counts = Counts {
+            in_use: *in_use,
+            limbo: *limbo,
+            free: *free,
+        };
+        assert_counts(rt, groups, counts);
     }
 }
 
@@ -89,7 +89,12 @@ static ONE_GROUP: [Row; 6] = [
 #[test]
 fn one_group_through_its_states(rt: HostRuntime) {
     let mut groups = Groups::new(rt.alloc(), 1).expect(&rt, "memory");
-    assert_counts(&rt, &groups, (0, 0, 1));
+    let counts = Counts {
+        in_use: 0,
+        limbo: 0,
+        free: 1,
+    };
+    assert_counts(&rt, &groups, counts);
     let mut states = [GroupState::Free];
     assert_calls(&rt, &mut groups, &mut states, &ONE_GROUP);
 }
@@ -112,7 +117,12 @@ static OF_BLOCKS: [Row; 5] = [
 #[test]
 fn first_groups_of_these_blocks(rt: HostRuntime) {
     let mut groups = Groups::of_blocks(rt.alloc(), &[7, 5], 3).expect(&rt, "memory");
-    assert_counts(&rt, &groups, (2, 0, 1));
+    let counts = Counts {
+        in_use: 2,
+        limbo: 0,
+        free: 1,
+    };
+    assert_counts(&rt, &groups, counts);
     let mut states = [
         GroupState::Linked(7),
         GroupState::Linked(5),
@@ -121,7 +131,7 @@ fn first_groups_of_these_blocks(rt: HostRuntime) {
     assert_calls(&rt, &mut groups, &mut states, &OF_BLOCKS);
 }
 
-fn counts_plainly(states: &[GroupState]) -> (usize, usize, usize) {
+fn counts_plainly(states: &[GroupState]) -> Counts {
     let (mut in_use, mut limbo, mut free) = (0usize, 0usize, 0usize);
     for state in states {
         match state {
@@ -130,7 +140,11 @@ fn counts_plainly(states: &[GroupState]) -> (usize, usize, usize) {
             GroupState::Limbo => limbo = limbo.saturating_add(1),
         }
     }
-    (in_use, limbo, free)
+    Counts {
+        in_use,
+        limbo,
+        free,
+    }
 }
 
 // How many groups the run is over.
@@ -145,38 +159,18 @@ fn least_free(states: &[GroupState]) -> Option<u32> {
     None
 }
 
-// A group is taken for this block, or this group is moved on.
-fn call_one(
-    rt: &impl Abort,
-    groups: &mut Groups,
-    states: &mut [GroupState],
-    block: usize,
-    group: Option<u32>,
-)
-    requires same { states.old ≡ groups.old }
-    ensures same { states.new ≡ groups.new }
-{
-    match group {
-        Some(group) => move_on(groups, states, group),
-        None => {
-            let least = least_free(states);
-            assert_at(rt, block, take(groups, states, block), least);
-        }
-    }
-}
-
 fn call_many(rt: &impl Abort, groups: &mut Groups, states: &mut [GroupState])
     requires same { states.old ≡ groups.old }
 {
     let mut seed = 1;
     for call in 0..3000usize {
         let drawn = draw(&mut seed) % GROUPS;
-        let moved = if draw(&mut seed) % 2 == 0 {
-            None
+        let next = if draw(&mut seed) % 2 == 0 {
+            Call::Take(call, least_free(states))
         } else {
-            Some(drawn)
+            Call::Move(drawn)
         };
-        call_one(rt, groups, states, call, moved);
+        assert_call(rt, groups, states, next);
         assert_counts(rt, groups, counts_plainly(states));
     }
 }
