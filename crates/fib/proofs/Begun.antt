@@ -23,10 +23,10 @@ use Rattle.lpm_writer.proofs.Unchanged.{unchanging, unchanged, unchanged_stays, 
 use Rattle.fib.specs.Fib.{IsSound}
 use Rattle.std.proofs.Math.Nat.{mul-le-mul_right}
 use Rattle.lpm_cells.specs.Words.{Words}
-use Rattle.lpm_groups.proofs.Marking.{limbo_count-of_blocks}
+use Rattle.lpm_groups.proofs.Marks.{limbo_count-of_blocks}
 use Rattle.lpm_rules.specs.RuleMap.{RuleMap}
 use Rattle.lpm_sweep.specs.Swept.{AreNumbered}
-use Rattle.lpm_sweep.proofs.Linking.{room_grown, tied}
+use Rattle.lpm_sweep.proofs.NewGroup.{room_grown, tied}
 
 -- what is known at first of the group at a place of the list, or of one past its end
 abbrev status_in : Option GroupState → Status

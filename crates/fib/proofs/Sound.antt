@@ -11,8 +11,8 @@ use Rattle.defer_queue.specs.declared.Reclaimed.{Reclaimed}
 use Rattle.fib_model.specs.State.{State}
 use Rattle.fib_model.specs.Outcomes.{Adds, Deletes, Flushes, Frees}
 use Rattle.fib_model.specs.Counters.{counter_transitions}
-use Rattle.fib_model.proofs.Carrying.{AreFollowed, Follows, beside}
-use Rattle.fib_model.proofs.Carried.{changes_carry_over}
+use Rattle.fib_model.proofs.TwoWays.{AreFollowed, Follows, beside}
+use Rattle.fib_model.proofs.Relations.{changes_carry_over}
 use Rattle.lpm_trace.specs.declared.step.WriterStep.{WriterStep}
 use Rattle.lpm_trace.specs.States.{InitialState, state_after}
 use Rattle.lpm_writer.specs.declared.plain_memory.PlainMemory.{PlainMemory}
@@ -20,7 +20,7 @@ use Rattle.lpm_writer.specs.Plain.{PlainDid}
 use Rattle.lpm_writer.specs.declared.control.ControlState.{ControlState}
 use Rattle.lpm_writer.specs.Rest.{IsResting, state_of}
 use Rattle.lpm_writer.specs.Traced.{WithSteps, by_writer}
-use Rattle.lpm_writer.proofs.Awaiting.{started_all}
+use Rattle.lpm_writer.proofs.Waits.{started_all}
 use Rattle.lpm_writer.proofs.StepsAlone.{named_is, named_same}
 use Rattle.lpm_writer.specs.Commands.{Commands}
 use Rattle.fib.specs.Fib.{FibState, IsSound, table_of}

@@ -7,7 +7,7 @@ use Rattle.qsbr.specs.Counters.{IsPast, Passes, Registry}
 use Rattle.lpm_limits.specs.declared.busy.Busy.{Busy}
 use Rattle.fib_model.specs.State.{looks}
 use Rattle.fib_model.specs.Counters.{counter_transitions, IsFirstByCounter}
-use Rattle.fib_model.proofs.Carrying.{Carries, IsCarried}
+use Rattle.fib_model.proofs.TwoWays.{Carries, IsCarried}
 use Rattle.lpm_trace.specs.declared.step.WriterStep.{WriterStep}
 use Rattle.lpm_trace.specs.declared.step.WriterStep.TheVariants.{StoreFirst, StoreSecond, BeginUpdate, EndUpdate, BumpToken, LoadCounter}
 use Rattle.lpm_trace.specs.States.{InitialState, state_after, lets_pass}

@@ -11,11 +11,11 @@ use Rattle.fib_model.specs.declared.event.Event.{Event}
 use Rattle.fib_model.specs.declared.event.Event.TheVariants.{Online, Offline, Quiescent, Unlinking}
 use Rattle.qsbr.specs.Intervals.{event_at, IsRunningSince, IsHeldByWorker}
 use Rattle.fib_model.specs.Textbook.{IsFirstHolder, begins, ends, by_reports, is_unlinking, unlinkings_before, unlinkings, event_of, textbook}
-use Rattle.qsbr.proofs.Running.{at_new, at_old, at_within, before_mono, before_old, before_next, count_more, count_same, since_within, since_new, since_kept, since_cases, held_start, start_held}
+use Rattle.qsbr.proofs.RunningIntervals.{at_new, at_old, at_within, before_mono, before_old, before_next, count_more, count_same, since_within, since_new, since_kept, since_cases, held_start, start_held}
 use Rattle.fib_model.specs.Counters.{IsFirstByCounter, by_counters, counter_of, initial_by_counters, counter_transitions}
 use Rattle.fib_model.proofs.Unique.{IsUnheld}
-use Rattle.fib_model.proofs.Carrying.{Carries, IsCarried, AreNamed}
-use Rattle.fib_model.proofs.Carried.{named_kept}
+use Rattle.fib_model.proofs.TwoWays.{Carries, IsCarried, AreNamed}
+use Rattle.fib_model.proofs.Relations.{named_kept}
 use Rattle.fib_model.specs.declared.orders.ReaderReport.TheVariants as kinds
 
 -- the one running interval of worker w, and the token number at its beginning

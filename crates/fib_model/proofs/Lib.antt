@@ -1,6 +1,6 @@
 pub mod ByPlaces
-pub mod Carrying
-pub mod Carried
+pub mod TwoWays
+pub mod Relations
 pub mod Versions
 pub mod Holders
 pub mod Same

@@ -14,12 +14,12 @@ use Rattle.fib_model.specs.Outcomes.{MayReport, Reports, Does, Log, Runs, log_af
 use Rattle.fib_model.specs.Counters.{counter_transitions, by_counters, initial_by_counters}
 use Rattle.fib_model.specs.Laws.{Agrees, CountersTellIntervals}
 use Rattle.fib_model.proofs.Holders.{Shows, IsName, online, held, shows_opened, shows_told, Names, names_newer, counters_carry}
-use Rattle.fib_model.proofs.Carrying.{Follows, AreFollowed, AreNamed, beside}
-use Rattle.fib_model.proofs.Carried.{named_length, named_at, changes_carry_over, Keeps, IsKept, AnyName, tokens_alone, changes_keep}
+use Rattle.fib_model.proofs.TwoWays.{Follows, AreFollowed, AreNamed, beside}
+use Rattle.fib_model.proofs.Relations.{named_length, named_at, changes_carry_over, Keeps, IsKept, AnyName, tokens_alone, changes_keep}
 use Rattle.std.proofs.lemmas.List.{length-take-le, take_more, reverse-append}
 use Rattle.std.proofs.lemmas.Bool.{eqb-true, false≢true}
 use Rattle.fib_model.specs.declared.event.Event.TheVariants.{Online, Offline, Quiescent, Unlinking}
-use Rattle.qsbr.proofs.Running.{tidy_more}
+use Rattle.qsbr.proofs.RunningIntervals.{tidy_more}
 use Rattle.lpm_limits.specs.declared.busy.Busy.{Busy}
 use Rattle.fib_model.specs.declared.orders.Order.TheVariants as order
 use Rattle.fib_model.specs.declared.orders.Outcome.TheVariants as outcome

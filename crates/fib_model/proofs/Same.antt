@@ -22,7 +22,7 @@ use Rattle.fib_model.specs.State.{State, IsExhausted, HasTokens}
 use Rattle.fib_model.specs.Outcomes.{LacksGroup, TakesGroup, HoldsFront, IsNew, Adds, Shrinks, Deletes, Flushes, Frees, MayReport, refusal_of, Reports, Does}
 use Rattle.fib_model.specs.Textbook.{IsFirstHolder, textbook, by_intervals}
 use Rattle.fib_model.specs.Laws.{OutcomesAreUnique}
-use Rattle.fib_model.proofs.Carried.{lacks_or_not}
+use Rattle.fib_model.proofs.Relations.{lacks_or_not}
 use Rattle.fib_model.proofs.Unique.{IsUnheld, one_front, one_reclaims, one_unlinks}
 use Rattle.std.proofs.lemmas.Option.{same_Some}
 

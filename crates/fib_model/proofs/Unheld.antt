@@ -9,7 +9,7 @@ use Rattle.lpm_limits.specs.declared.config.Config.{Config}
 use Rattle.fib_model.specs.declared.event.Event.{Event}
 use Rattle.qsbr.specs.Intervals.{IsHeldByWorker, IsTidy, IsRunningSince}
 use Rattle.fib_model.specs.Textbook.{by_reports, unlinkings_before, textbook, IsFirstHolder}
-use Rattle.qsbr.proofs.Running.{held_start}
+use Rattle.qsbr.proofs.RunningIntervals.{held_start}
 use Rattle.fib_model.specs.State.{Reclaims}
 use Rattle.fib_model.proofs.Unique.{IsUnheld, Freed}
 use Rattle.fib_model.specs.Laws.{UnheldByNone}

@@ -5,7 +5,7 @@ use Rattle.std.proofs.lemmas.List.{length-reverse, length-take-le, reverse-appen
 use Rattle.fib_model.specs.declared.event.Event.{Event}
 use Rattle.qsbr.specs.Intervals.{IsRunningSince}
 use Rattle.fib_model.specs.Textbook.{begins, ends, by_reports, textbook, is_unlinking, unlinkings_before, IsFirstHolder}
-use Rattle.qsbr.proofs.Running.{since_new, since_kept, since_cases, held_start}
+use Rattle.qsbr.proofs.RunningIntervals.{since_new, since_kept, since_cases, held_start}
 use Rattle.std.proofs.lemmas.Option.{same_Some}
 use Rattle.lpm_limits.specs.declared.busy.Busy.{Busy}
 use Rattle.lpm_limits.specs.declared.config.Config.{Config}

@@ -20,7 +20,7 @@ use Rattle.lpm_trace.specs.States.{InitialState, state_after, TableState, Unused
 use Rattle.lpm_writer.specs.declared.control.ControlState.{ControlState}
 use Rattle.lpm_writer.proofs.Reclaims.{is_limbo}
 use Rattle.interleave.specs.declared.reply.Reply.{Reply}
-use Rattle.interleave.proofs.Performing.{HasPerformed, performed_more, performed_all, performed_before, performed_within, waits_longer}
+use Rattle.interleave.proofs.WriterScript.{HasPerformed, performed_more, performed_all, performed_before, performed_within, waits_longer}
 use Rattle.std.proofs.lemmas.List.{append-nil, map-append, reverse-append}
 use Rattle.std.proofs.lemmas.List.Elements.{filter-append}
 use Rattle.lpm_trace.specs.declared.step.TraceStep.{TraceStep}

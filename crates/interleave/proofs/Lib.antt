@@ -1,9 +1,9 @@
 pub mod Waited
-pub mod Performing
+pub mod WriterScript
 pub mod Items
 pub mod WriterSteps
-pub mod Turning
-pub mod Reaching
+pub mod WorkerTurn
+pub mod Turns
 pub mod Ends
 pub mod Lookups
 pub mod Ranges

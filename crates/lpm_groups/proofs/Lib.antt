@@ -1,1 +1,1 @@
-pub mod Marking
+pub mod Marks

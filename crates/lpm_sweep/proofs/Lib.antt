@@ -1,5 +1,5 @@
 pub mod Stacks
 pub mod DeepBlocks
 pub mod Sweeps
-pub mod Sorting
-pub mod Linking
+pub mod KeyOrder
+pub mod NewGroup

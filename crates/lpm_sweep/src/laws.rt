@@ -9,7 +9,7 @@ pub fn order_is_by_bits()
 
 /// Groups that are linked to the swept blocks, in their order, and free ones behind them are tied
 /// to the links of the words.
-#[tactic(auto, using(crate::proofs::Linking::tied))]
+#[tactic(auto, using(crate::proofs::NewGroup::tied))]
 pub fn numbered_are_tied()
     ensures { NumberedAreTied }
 {}

@@ -2,7 +2,7 @@
 -- store into it.
 use Rattle.std.proofs.Common.{◌≡◌, ℕ, suc, ◌/◌, ◌^◌, ◌≤◌, inl, inr, true, false, cond, eqb, eq-eqb, IsTrue, List, [], ◌∷◌, ◌++◌, length, refl, sym, ap, subst, ◌∙◌, append_assoc, length-append, arith}
 use Rattle.qsbr.specs.Intervals.{IsReaderInterval, IsRunningSince, IsHeldByWorker}
-use Rattle.qsbr.proofs.Running.{since_within, since_cases, held_start, grace_period_is_over}
+use Rattle.qsbr.proofs.RunningIntervals.{since_within, since_cases, held_start, grace_period_is_over}
 use Rattle.lpm_trace.specs.declared.step.WriterStep.{WriterStep}
 use Rattle.lpm_trace.specs.declared.step.WriterStep.TheVariants.{StoreFirst, StoreSecond}
 use Rattle.lpm_trace.specs.declared.step.WorkerStep.{WorkerStep}
@@ -13,7 +13,7 @@ use Rattle.lpm_trace.specs.States.{InitialState, TableState, IsSettled, first_en
 use Rattle.lpm_trace.specs.Trace.{Worker, worker_by_step, MayRead, IsRunning, after, IsTrace, writes}
 use Rattle.lpm_trace.specs.Laws.{begins, ends, by_steps, Unlinks, ReuseIsLawful}
 use Rattle.lpm_trace.proofs.Versions.{with_at-same, by_number}
-use Rattle.lpm_trace.proofs.Writing.{stamped_le, stamped_ge}
+use Rattle.lpm_trace.proofs.WriterStores.{stamped_le, stamped_ge}
 use Rattle.lpm_trace.proofs.Traces.{oldest_old, oldest_all, clock_length, tables_of, after_grace}
 use Rattle.lpm_trace.proofs.Moments.{count, count_old, count_le}
 

@@ -1,4 +1,4 @@
-pub mod Writing
+pub mod WriterStores
 pub mod Good
 pub mod Versions
 pub mod Moments

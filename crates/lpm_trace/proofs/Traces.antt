@@ -11,7 +11,7 @@ use Rattle.lpm_trace.specs.Trace.{Worker, Probe, Unread, InGroup, Answered, Fini
 use Rattle.lpm_trace.specs.Laws.{IsLegalAtPlace, OwnLookupsAreLegal, ArePlaced, OwnStepsArePlaced, VersionsNeverFallAtPlaces, PlacesNeverFall, TraceGrows}
 use Rattle.lpm_trace.proofs.Versions.{by_number, Each, each_map, with_at_case, each_all, Shows, keeps_shows, opening_shows, version_ge, version_le, rises, sequence_grows, history_stays, tick}
 use Rattle.lpm_trace.proofs.Good.{Told, half_by, ProbeOk, FinishedOk, WorkerOk, Good, worker_moves}
-use Rattle.lpm_trace.proofs.Writing.{keeps_first, keeps_second, held_not_filled, keeps_quiet, keeps_counter}
+use Rattle.lpm_trace.proofs.WriterStores.{keeps_first, keeps_second, held_not_filled, keeps_quiet, keeps_counter}
 use Rattle.std.proofs.lemmas.List.Elements.{All-nil, All-cons, All-head, All-tail, All-weaker}
 use Rattle.std.proofs.lemmas.List.Kept.{AllPairs-cons}
 use Rattle.std.specs.List.{AllPairs}

@@ -10,7 +10,7 @@ use Rattle.lpm_update.specs.Rewrite.{replaces, rewritten_entry, Stands, Skips}
 use Rattle.lpm_update.specs.Kinds.{IsWhole, IsRewriting, IsRangeOf}
 use Rattle.lpm_update.specs.Linked.{IsTable, IsLinkTo}
 use Rattle.std.proofs.Math.ListN.{length-set}
-use Rattle.lpm_cells.proofs.Reading.{entry_in-word_of}
+use Rattle.lpm_cells.proofs.ReadBack.{entry_in-word_of}
 use Rattle.std.proofs.Math.Nat.{mul-le-mul_right, mul_assoc}
 use Rattle.lpm_update.specs.declared.rewrite.Rewrite.{Rewrite}
 use Rattle.lpm_bits.specs.Network.{Network, IsNetwork}

@@ -6,7 +6,7 @@ use Rattle.std.proofs.lemmas.List.{get_or_past}
 use Rattle.lpm_bits.specs.Widths.{IsShape}
 use Rattle.lpm_cells.specs.declared.entry.Entry.TheVariants.{Miss, Group}
 use Rattle.lpm_cells.specs.Words.{IsEntry, IsLast, IsWord, IsLastWord, word_of, entry_in, Words, entry_at, last_entry, with_first, with_second}
-use Rattle.lpm_cells.proofs.Reading.{entry_in_zero}
+use Rattle.lpm_cells.proofs.ReadBack.{entry_in_zero}
 use Rattle.lpm_update.specs.declared.Did.TheVariants.{First, Second, Done, Unlinked}
 use Rattle.lpm_update.specs.declared.rewrite.Rewrite.{Rewrite}
 use Rattle.lpm_update.specs.declared.rewrite_range.RewriteRange.{RewriteRange}

@@ -18,7 +18,7 @@ use Rattle.std.proofs.lemmas.List.{get_or-replicate, length-replicate, get_or_pa
 use Rattle.lpm_rules.specs.RuleMap.{network_cmp, RuleMap, AllNetworks}
 use Rattle.lpm_rules.proofs.Views.{not_some, networks_empty}
 use Rattle.lpm_cells.specs.declared.entry.Entry.TheVariants.{Miss, Group}
-use Rattle.lpm_cells.proofs.Reading.{entry_in_zero, blank as blank_cells}
+use Rattle.lpm_cells.proofs.ReadBack.{entry_in_zero, blank as blank_cells}
 use Rattle.lpm_update.specs.Best.{IsBest}
 use Rattle.std.specs.List.{list_any, IsDistinct, AllByRecursion}
 use Rattle.std.specs.Ordering.{nat_cmp, eq_by_cmp}
@@ -28,7 +28,7 @@ use Rattle.std.proofs.lemmas.Bool.Decides.{same_from_decides}
 use Rattle.std.proofs.lemmas.Map.Keys.{IsDistinct-head, IsDistinct-tail}
 use Rattle.std.proofs.lemmas.Map.Lookups.{exact_unsigned}
 use Rattle.std.proofs.lemmas.Map.Views.{Contains-from_any, list_any-from_Contains, tells_apart}
-use Rattle.lpm_groups.proofs.Marking.{length-linked_blocks, Contains-linked_blocks, group_of_block, IsDistinct-linked_blocks, IsLinkedOnce, linked_blocks}
+use Rattle.lpm_groups.proofs.Marks.{length-linked_blocks, Contains-linked_blocks, group_of_block, IsDistinct-linked_blocks, IsLinkedOnce, linked_blocks}
 use Rattle.lpm_rules.specs.Deep.{deep_blocks}
 use Rattle.lpm_rules.proofs.Deep.{has_deep_blocks, deep_below}
 use Rattle.std.specs.FinSet as set

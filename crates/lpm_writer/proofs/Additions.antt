@@ -11,7 +11,7 @@ use Rattle.lpm_bits.specs.Network.{Network, IsNetwork}
 use Rattle.lpm_cells.specs.Words.{Words}
 use Rattle.lpm_groups.specs.declared.GroupState.TheVariants.{Linked}
 use Rattle.lpm_groups.specs.States.{linked_count, free_count}
-use Rattle.lpm_groups.proofs.Marking.{counts-total}
+use Rattle.lpm_groups.proofs.Marks.{counts-total}
 use Rattle.lpm_limits.specs.declared.busy.Busy.{Busy}
 use Rattle.lpm_limits.specs.declared.config.Config.{Config}
 use Rattle.lpm_limits.specs.declared.refusal.Refusal.TheVariants.{NoGroups}

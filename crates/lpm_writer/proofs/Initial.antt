@@ -6,7 +6,7 @@ use Rattle.std.proofs.lemmas.List.{get_or_past, length-replicate}
 use Rattle.lpm_bits.specs.Widths.{IsShape}
 use Rattle.lpm_cells.specs.declared.entry.Entry.TheVariants.{Miss, Group}
 use Rattle.lpm_cells.specs.Words.{entry_in, group_in, Words, entry_at}
-use Rattle.lpm_cells.proofs.Reading.{entry_in_zero}
+use Rattle.lpm_cells.proofs.ReadBack.{entry_in_zero}
 use Rattle.lpm_groups.specs.declared.GroupState.{GroupState}
 use Rattle.lpm_groups.specs.declared.GroupState.TheVariants.{Free, Linked, Limbo}
 use Rattle.lpm_groups.specs.States.{limbo_count}
@@ -20,7 +20,7 @@ use Rattle.lpm_update.proofs.Promises.{best_hop, blank}
 use Rattle.lpm_trace.specs.States.{InitialState, Status, Unused, Linked as LinkedTo, Retired, IsFree, IsSettled}
 use Rattle.lpm_writer.specs.Rest.{IsResting, blank_state}
 use Rattle.std.specs.FinMap.{empty}
-use Rattle.lpm_groups.proofs.Marking.{limbo_count-replicate}
+use Rattle.lpm_groups.proofs.Marks.{limbo_count-replicate}
 use Rattle.lpm_update.specs.Laws.{blank_words}
 use Rattle.lpm_writer.specs.declared.pool.GroupPool.{GroupPool}
 

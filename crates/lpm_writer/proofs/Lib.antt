@@ -1,13 +1,13 @@
 pub mod Checks
-pub mod Making
+pub mod RunningUpdate
 pub mod Reclaims
 pub mod NextStores
-pub mod Storing
+pub mod AfterStore
 pub mod UpdateRuns
-pub mod MakingStores
+pub mod RunningStores
 pub mod WholeUpdates
 pub mod Rests
-pub mod Awaiting
+pub mod Waits
 pub mod Additions
 pub mod LimboItems
 pub mod StepsAlone

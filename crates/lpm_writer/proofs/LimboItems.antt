@@ -5,7 +5,7 @@ use Rattle.std.proofs.lemmas.Bool.{cases_eq}
 use Rattle.lpm_groups.specs.declared.GroupState.{GroupState}
 use Rattle.lpm_groups.specs.declared.GroupState.TheVariants.{Linked, Free, Limbo}
 use Rattle.lpm_groups.specs.States.{IsLeastFree, IsLinkedTo, IsLimboAt, IsFreeAt, is_free, is_linked, free_count, linked_count}
-use Rattle.lpm_groups.proofs.Marking.{slice_get-set_other, slice_get-set_same, Releases-set, Retires-set, Takes-set, counts-total, count_by-some}
+use Rattle.lpm_groups.proofs.Marks.{slice_get-set_other, slice_get-set_same, Releases-set, Retires-set, Takes-set, counts-total, count_by-some}
 use Rattle.lpm_update.specs.Tied.{SameLinksBut}
 use Rattle.lpm_writer.specs.Limbo.{IsFreed, AreWaiting, IsQueued, IsTaken, tokens_of}
 use Rattle.lpm_writer.specs.Take.{LinksLeast, MayTake}

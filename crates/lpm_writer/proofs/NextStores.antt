@@ -27,7 +27,7 @@ use Rattle.lpm_trace.specs.States.{InitialState, TableState, Status, Unused, Lin
 use Rattle.lpm_trace.specs.Progress.{WriterProgress, FillsOwn, LinksOwn, HasLinkedOwn}
 use Rattle.lpm_trace.specs.Writer.{progress_after, MayStep}
 use Rattle.lpm_writer.specs.GroupsMatch.{GroupsMatchSteps, HasNothingDue}
-use Rattle.lpm_writer.proofs.Making.{IsMaking, answer_after}
+use Rattle.lpm_writer.proofs.RunningUpdate.{IsMaking, answer_after}
 
 none_last : (e : Entry) → group_in e ≡ None → IsLast e
 none_last Miss h = tt

@@ -19,7 +19,7 @@ use Rattle.std.proofs.lemmas.Option.{same_Some, slice_get_within}
 use Rattle.defer_queue.specs.Retired.{IsAbsent}
 use Rattle.lpm_groups.specs.declared.GroupState.{GroupState}
 use Rattle.lpm_groups.specs.States.{IsLimboAt, IsFreeAt}
-use Rattle.lpm_groups.proofs.Marking.{slice_get-set_same, slice_get-set_other}
+use Rattle.lpm_groups.proofs.Marks.{slice_get-set_same, slice_get-set_other}
 use Rattle.lpm_limits.specs.declared.busy.Busy.{Busy}
 use Rattle.fib_model.specs.State.{Reclaims}
 use Rattle.defer_queue.specs.Reclaims.{FreesFront}

@@ -34,7 +34,7 @@ use Rattle.lpm_writer.proofs.UpdateRuns.{AsMemory, fit}
 use Rattle.lpm_writer.proofs.Checks.{quiet_same}
 use Rattle.lpm_writer.proofs.StepsAlone.{StoresNothing}
 use Rattle.lpm_writer.proofs.WholeUpdates.{MayChange, truth, may_open, after_open, after_close}
-use Rattle.lpm_writer.proofs.Making.{answer_after, MayMake, HasMade}
+use Rattle.lpm_writer.proofs.RunningUpdate.{answer_after, MayMake, HasMade}
 
 -- a change that fills no group
 pub none_fills : (u : Plan) (block : ℕ) (F : List ℕ) → FillsFor u None block → (group_to_fill u F ≡ None) × IsTakenBy u None

@@ -27,15 +27,15 @@ use Rattle.lpm_writer.specs.Traced.{WithSteps, Loads, LoadsUntilStopped, Checks,
 use Rattle.lpm_writer.specs.Take.{Takes, Finds}
 use Rattle.lpm_writer.specs.Steps.{StoreSameWord, since_opened, StoresOnce, IsStore, AreStopped, by_steps_from}
 use Rattle.lpm_writer.proofs.GivenUp.{Retires}
-use Rattle.lpm_writer.proofs.Making.{HasPassedStore, HasPassedStores, stored_by}
+use Rattle.lpm_writer.proofs.RunningUpdate.{HasPassedStore, HasPassedStores, stored_by}
 use Rattle.lpm_trace.specs.Writer.{token_after}
 use Rattle.lpm_trace.proofs.Versions.{token_is, passed_is}
 use Rattle.lpm_limits.specs.declared.refusal.Refusal.{Refusal}
 use Rattle.lpm_rules.specs.declared.Put.{Put}
 use Rattle.defer_queue.specs.declared.Reclaimed.{Reclaimed}
 use Rattle.fib_model.specs.Outcomes.{Adds, Deletes, Flushes, Frees}
-use Rattle.fib_model.proofs.Carrying.{Carries, AreNamed, AreFollowed, Follows, beside}
-use Rattle.fib_model.proofs.Carried.{changes_carry_over}
+use Rattle.fib_model.proofs.TwoWays.{Carries, AreNamed, AreFollowed, Follows, beside}
+use Rattle.fib_model.proofs.Relations.{changes_carry_over}
 use Rattle.lpm_writer.proofs.Checks.{HasPassed, HasStopped, check_passes, check_stops}
 use Rattle.defer_queue.specs.Reclaims as queue
 use Rattle.lpm_writer.specs.Steps as by_steps

@@ -30,8 +30,8 @@ use Rattle.lpm_writer.specs.GroupToFill.{group_to_fill, HasWidths}
 use Rattle.lpm_writer.proofs.GivenUp.{HasUnlinked, HasRetired, Retires}
 use Rattle.lpm_writer.proofs.StepsAlone.{store_first, store_unlink, store_second, after_retire}
 use Rattle.lpm_writer.proofs.NextStores.{filling_same, first_kind, unlink_kind, may_store_first, may_store_second, may_unlink, may_close}
-use Rattle.lpm_writer.proofs.Storing.{none_filling, over_filling, taken_first, taken_unlink, unlink_filling, taken_by_second, has_linked, keeps_first, keeps_second, has_unlinked, making_first, making_second, making_quiet}
-use Rattle.lpm_writer.proofs.Making.{IsMaking, MayMake, HasMade, HasUnlinkedSome}
+use Rattle.lpm_writer.proofs.AfterStore.{none_filling, over_filling, taken_first, taken_unlink, unlink_filling, taken_by_second, has_linked, keeps_first, keeps_second, has_unlinked, making_first, making_second, making_quiet}
+use Rattle.lpm_writer.proofs.RunningUpdate.{IsMaking, MayMake, HasMade, HasUnlinkedSome}
 use Rattle.lpm_cells.specs.declared.Cells as cells
 use Rattle.lpm_writer.specs.declared.memory.Memory as memory
 

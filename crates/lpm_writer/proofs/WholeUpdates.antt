@@ -19,7 +19,7 @@ use Rattle.lpm_writer.specs.GroupsMatch.{GroupsMatchSteps}
 use Rattle.lpm_writer.specs.GroupToFill.{HasWidths, IsTakenBy, group_to_fill}
 use Rattle.lpm_writer.specs.Rest.{IsBetween, Changes}
 use Rattle.lpm_writer.proofs.Reclaims.{kept_quiet}
-use Rattle.lpm_writer.proofs.Making.{HasPassedStore, answer_after, MayMake, HasMade}
+use Rattle.lpm_writer.proofs.RunningUpdate.{HasPassedStore, answer_after, MayMake, HasMade}
 
 -- the update u by this change of the rules may be made
 pub record MayChange (first second : ℕ) (c : InitialState) (steps : List WriterStep) (u : Plan)

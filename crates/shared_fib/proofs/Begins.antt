@@ -4,14 +4,14 @@ use Rattle.std.specs.List.{range_with_len}
 use Rattle.std.proofs.lemmas.List.{ext_get_or}
 use Rattle.std.proofs.lemmas.List.FromFn.{length-map-range_with_len, get_or-map-range_with_len}
 use Rattle.lpm_cells.specs.Words.{Words}
-use Rattle.lpm_cells.proofs.Reading.{word_below}
+use Rattle.lpm_cells.proofs.ReadBack.{word_below}
 use Rattle.lpm_groups.specs.declared.GroupState.{GroupState}
 use Rattle.lpm_rules.specs.RuleMap.{RuleMap}
 use Rattle.lpm_trace.specs.States.{IsSettled, Unused, Linked}
 use Rattle.lpm_trace.specs.Trace.{after}
 use Rattle.shared_words.specs.declared.layout.Layout.{Layout}
 use Rattle.shared_words.specs.Layout.{InitialData, initial_state_of, words_of, status_of, IsLaidOut, half, pairs, first_at, second_at, token_at, initial_words}
-use Rattle.shared_words.proofs.Laying.{lays_opening}
+use Rattle.shared_words.proofs.WordPlaces.{lays_opening}
 use Rattle.shared_fib.specs.Initial.{ArePacked, initial_data_by, initial_data_of_words, unpacked_words, block_of}
 use Rattle.std.specs.Prelude.{option_map}
 use Rattle.std.specs.FinMap.{empty}

@@ -21,7 +21,7 @@ use Rattle.shared_words.specs.Seats.{AreChecked}
 use Rattle.shared_fib.specs.Freed.{FreesChecked}
 use Rattle.shared_fib.proofs.Freed.{Leaves}
 use Rattle.shared_fib.specs.RunningTable.{OnlySees}
-use Rattle.shared_fib.proofs.Taking.{given_up}
+use Rattle.shared_fib.proofs.LeastGroup.{given_up}
 use Rattle.shared_fib.proofs.Lookups.{all_front}
 
 -- ---- the tokens under which groups are retired

@@ -17,7 +17,7 @@ use Rattle.fib_model.specs.State as model
 use Rattle.fib_model.proofs.ByPlaces.{Passes, Reclaims, by_places}
 use Rattle.fib_model.specs.Outcomes.{Adds, Deletes, Flushes, TakesGroup, HoldsFront, Updates, Shrinks, groups_in_use}
 use Rattle.lpm_rules.specs.RuleMap.{RuleMap}
-use Rattle.fib_model.proofs.Carried.{lacks_or_not}
+use Rattle.fib_model.proofs.Relations.{lacks_or_not}
 use Rattle.std.specs.FinMap.{get, remove, empty}
 use Rattle.lpm_trace.specs.declared.step.WriterStep.{WriterStep}
 use Rattle.lpm_trace.specs.declared.step.WriterStep.TheVariants.{StoreFirst, StoreSecond}

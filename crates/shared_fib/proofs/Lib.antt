@@ -1,6 +1,6 @@
 pub mod Live
 pub mod Freed
-pub mod Taking
+pub mod LeastGroup
 pub mod Checked
 pub mod AllFreed
 pub mod Waited
@@ -11,8 +11,8 @@ pub mod Seated
 pub mod Backwards
 pub mod Since
 pub mod Begins
-pub mod Packing
+pub mod PackedWords
 pub mod Lookups
 pub mod Seats
-pub mod Leading
+pub mod CommandSteps
 pub mod Tokens

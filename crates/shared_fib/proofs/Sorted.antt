@@ -13,7 +13,7 @@ use Rattle.lpm_writer.specs.declared.control.ControlState.{ControlState}
 use Rattle.fib.specs.Fib.{IsSound}
 use Rattle.fib.proofs.Begun.{fewer_words, sound_swept, control, memory}
 use Rattle.shared_words.specs.Layout.{pairs, pair_at, packed_words}
-use Rattle.shared_words.proofs.Laying.{packed_at, packed_length}
+use Rattle.shared_words.proofs.WordPlaces.{packed_at, packed_length}
 use Rattle.shared_fib.specs.declared.initial_table.InitialTable.{InitialTable}
 use Rattle.shared_fib.specs.Loaded.{IsLoaded, AreSwept}
 use Rattle.shared_fib.proofs.Begins.{loaded_packed, loaded_is}

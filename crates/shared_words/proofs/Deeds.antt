@@ -18,7 +18,7 @@ use Rattle.shared_words.specs.Layout.{InitialData, initial_state_of}
 use Rattle.shared_words.specs.Rule.{IsLater, Seating, Sits, IsViewOf, Holds, note_of, read_note, view_with_note}
 use Rattle.shared_words.specs.Seats.{IsSound, Gains, SeatCompares}
 use Rattle.shared_words.specs.Deeds.{IsReadOn, GainsAll, GainsAt, GoesOn, LoadsAround}
-use Rattle.shared_words.proofs.Writing.{later_none, seats_set}
+use Rattle.shared_words.proofs.WriterRule.{later_none, seats_set}
 use mathlib.Core.Option.{some, none}
 use lib.ListN.{get_elem?}
 use Rattle.atomic_table.specs.Table.{State, Me, keeps, step, Allows, Splits, Joins}

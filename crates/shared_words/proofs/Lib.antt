@@ -1,6 +1,6 @@
-pub mod Laying
-pub mod Writing
-pub mod Workings
-pub mod Reading
+pub mod WordPlaces
+pub mod WriterRule
+pub mod WorkerRule
+pub mod WorkerSteps
 pub mod Deeds
 pub mod Together

@@ -21,7 +21,7 @@ use Rattle.fib_model.specs.State.{State, Keeping}
 use Rattle.fib_model.specs.Outcomes.{Does}
 use Rattle.lpm_trace.specs.declared.step.WriterStep.{WriterStep}
 use Rattle.shared_words.specs.Rule.{IsLater}
-use Rattle.shared_fib.proofs.Leading.{GoOn, adds_later, deletes_later, flushes_later, frees_later, steps_go_on}
+use Rattle.shared_fib.proofs.CommandSteps.{GoOn, adds_later, deletes_later, flushes_later, frees_later, steps_go_on}
 use Rattle.std.proofs.lemmas.Bool.{cases_lt}
 use Rattle.lpm_limits.specs.declared.refusal.Refusal.TheVariants.{TooManyRules, NoSuchRule, Exhausted, NoGroups, Memory}
 use Rattle.lpm_rules.specs.Longest.{IsLongestHop}

@@ -1,7 +1,7 @@
 use Rattle.std.proofs.Common.{◌≡◌, ℕ, ◌-◌, ◌*◌, ◌^◌, List, ◌++◌, length, subst, sym, lit<, rules}
 use Rattle.std.specs.Prelude.{replicate}
 use Rattle.lpm_cells.specs.Words.{IsWords}
-use Rattle.lpm_sweep.proofs.Linking.{room_grown}
+use Rattle.lpm_sweep.proofs.NewGroup.{room_grown}
 use Rattle.fib.proofs.sorted.memory_of.Goals as goal
 
 pub of_words-cells-requires : goal.of_words-cells-requires

@@ -6,7 +6,7 @@ use Rattle.lpm_writer.specs.declared.control.ControlState.{ControlState}
 use Rattle.interleave.specs.View.{WorldView}
 use Rattle.interleave.specs.declared.reply.Reply.{Reply}
 use Rattle.interleave.proofs.Items.{items_few}
-use Rattle.interleave.proofs.Reaching.{scripts_stay}
+use Rattle.interleave.proofs.Turns.{scripts_stay}
 use Rattle.interleave.proofs.Ends.{HasAnswered, HasEnded, HasCome, IsLate, answered_more, ends_all, ends_before, ends_late, ends_waiting}
 use Rattle.interleave.proofs.outcomes.answer_all.Goals as goal
 

@@ -1,6 +1,6 @@
 use Rattle.std.proofs.Common.{◌++◌, List, ℕ, Option, sym, ap₂, ◌∙◌}
 use Rattle.route_text.specs.Texts.{answer_lines}
-use Rattle.route_text.proofs.Answering.{parted}
+use Rattle.route_text.proofs.AnswerLines.{parted}
 use Rattle.lpm_files.proofs.answers.+writing.Goals as goal
 
 pub returns : goal.returns

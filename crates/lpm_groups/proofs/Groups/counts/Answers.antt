@@ -1,5 +1,5 @@
 use Rattle.std.proofs.Common.{arith, rules}
-use Rattle.lpm_groups.proofs.Marking.{counts-total}
+use Rattle.lpm_groups.proofs.Marks.{counts-total}
 use Rattle.lpm_groups.proofs.Groups.counts.Goals as goal
 
 pub overflow_sub-result-2 : goal.overflow_sub-result-2

@@ -1,4 +1,4 @@
-use Rattle.lpm_groups.proofs.Marking.{IsSound-new}
+use Rattle.lpm_groups.proofs.Marks.{IsSound-new}
 use Rattle.lpm_groups.proofs.Groups.new.Goals as goal
 
 pub invariant_of-result : goal.invariant_of-result

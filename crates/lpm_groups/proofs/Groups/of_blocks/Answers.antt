@@ -2,7 +2,7 @@ use Rattle.std.proofs.Common.{arith, ap, ◌∙◌, ◌≡◌, ◌-◌, ◌++◌
 use Rattle.std.proofs.lemmas.Grind.{common_steps}
 use Rattle.lpm_groups.specs.declared.GroupState.TheVariants.{Free, Linked}
 use Rattle.lpm_groups.specs.States.{linked_count, limbo_count}
-use Rattle.lpm_groups.proofs.Marking.{linked_count-of_blocks, limbo_count-of_blocks, IsSound-of_blocks}
+use Rattle.lpm_groups.proofs.Marks.{linked_count-of_blocks, limbo_count-of_blocks, IsSound-of_blocks}
 use Rattle.lpm_groups.proofs.Groups.of_blocks.Goals as goal
 
 pub loop-block-preserved : goal.loop-block-preserved

@@ -1,6 +1,6 @@
 use Rattle.std.proofs.Common.{arith}
 use Rattle.lpm_groups.specs.States.{IsLimboAt}
-use Rattle.lpm_groups.proofs.Marking.{Releases-set, IsSound-released}
+use Rattle.lpm_groups.proofs.Marks.{Releases-set, IsSound-released}
 use Rattle.lpm_groups.proofs.Groups.release.Goals as goal
 
 pub overflow_sub-self : goal.overflow_sub-self

@@ -1,6 +1,6 @@
 use Rattle.std.proofs.Common.{arith}
 use Rattle.lpm_groups.specs.States.{IsLinkedAt}
-use Rattle.lpm_groups.proofs.Marking.{linked_to, Retires-set, IsSound-retired}
+use Rattle.lpm_groups.proofs.Marks.{linked_to, Retires-set, IsSound-retired}
 use Rattle.lpm_groups.proofs.Groups.retire.Goals as goal
 
 pub overflow_sub-self : goal.overflow_sub-self

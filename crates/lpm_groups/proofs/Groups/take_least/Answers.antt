@@ -1,5 +1,5 @@
 use Rattle.std.proofs.Common.{refl, arith}
-use Rattle.lpm_groups.proofs.Marking.{take_rest, IsLeastFree-found, free_count-not_found, IsSound-none, IsSound-taken}
+use Rattle.lpm_groups.proofs.Marks.{take_rest, IsLeastFree-found, free_count-not_found, IsSound-none, IsSound-taken}
 use Rattle.lpm_groups.proofs.Groups.take_least.Goals as goal
 
 pub invariant_of-self : goal.invariant_of-self

@@ -1,4 +1,4 @@
-use Rattle.lpm_sweep.proofs.Linking.{room_grown}
+use Rattle.lpm_sweep.proofs.NewGroup.{room_grown}
 use Rattle.lpm_sweep.proofs.laws.room_may_grow.Goals as goal
 
 pub returns : goal.returns

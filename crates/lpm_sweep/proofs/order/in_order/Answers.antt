@@ -4,7 +4,7 @@ use Rattle.std.specs.List.Sorted.{IsPermutation, IsNonDecreasing}
 use Rattle.std.proofs.lemmas.List.Sorted.{IsNonDecreasingBy-from_sort}
 use Rattle.lpm_rules.specs.declared.Rule.{Rule}
 use Rattle.lpm_sweep.specs.Keys.{AreKeys}
-use Rattle.lpm_sweep.proofs.Sorting.{AreTaken, taken_more, names_of, count_keys, sorted_order, sorted_same, reordered}
+use Rattle.lpm_sweep.proofs.KeyOrder.{AreTaken, taken_more, names_of, count_keys, sorted_order, sorted_same, reordered}
 use Rattle.lpm_sweep.proofs.order.in_order.Goals as goal
 
 -- a sorted key names a rule

@@ -1,4 +1,4 @@
-use Rattle.lpm_sweep.proofs.Sorting.{AreTaken}
+use Rattle.lpm_sweep.proofs.KeyOrder.{AreTaken}
 use Rattle.lpm_sweep.proofs.order.in_order.Given as goal
 
 abbrev pub invariant-loop-key : goal.invariant-loop-key

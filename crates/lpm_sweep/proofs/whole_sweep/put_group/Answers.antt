@@ -9,7 +9,7 @@ use Rattle.lpm_rules.specs.RuleMap.{prefix_at, rules_of}
 use Rattle.lpm_sweep.proofs.Stacks.{under_end}
 use Rattle.lpm_rules.proofs.Views.{prefix_read}
 use Rattle.lpm_sweep.proofs.Sweeps.{swept_on, numbered_on}
-use Rattle.lpm_sweep.proofs.Linking.{starts, put_last, last_length, swept_group, numbered_group}
+use Rattle.lpm_sweep.proofs.NewGroup.{starts, put_last, last_length, swept_group, numbered_group}
 use Rattle.lpm_sweep.proofs.DeepBlocks.{one_block_more}
 use Rattle.lpm_sweep.proofs.whole_sweep.put_group.Given.{Over}
 use Rattle.lpm_sweep.proofs.whole_sweep.put_group.Goals.{In_ok-advance, In_ok-fill}

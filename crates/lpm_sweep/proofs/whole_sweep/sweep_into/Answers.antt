@@ -14,7 +14,7 @@ use Rattle.lpm_update.specs.Represents.{Represents}
 use Rattle.std.proofs.lemmas.Grind.{common_steps}
 use Rattle.lpm_sweep.specs.Swept.{word_by_frames, IsSwept, AreNumbered}
 use Rattle.lpm_sweep.proofs.Sweeps.{onward, swept_on, numbered_on}
-use Rattle.lpm_sweep.proofs.Linking.{swept_none, numbered_none, swept_all}
+use Rattle.lpm_sweep.proofs.NewGroup.{swept_none, numbered_none, swept_all}
 use Rattle.lpm_sweep.proofs.DeepBlocks.{more_blocks}
 use Rattle.lpm_sweep.proofs.whole_sweep.sweep_into.Given.{Over}
 use Rattle.lpm_sweep.proofs.whole_sweep.sweep_into.Goals.{After-len}

@@ -7,10 +7,10 @@ use Rattle.lpm_trace.specs.declared.step.WriterStep.{WriterStep}
 use Rattle.lpm_trace.specs.declared.step.WriterStep.TheVariants.{BeginUpdate, BumpToken, EndUpdate}
 use Rattle.lpm_trace.specs.States.{InitialState}
 use Rattle.lpm_writer.proofs.GivenUp.{HasRetired, HasUnlinked, Retires}
-use Rattle.lpm_writer.proofs.Making.{MayMake, HasMade}
+use Rattle.lpm_writer.proofs.RunningUpdate.{MayMake, HasMade}
 use Rattle.lpm_writer.specs.Rest.{IsDue, IsResting}
 use Rattle.lpm_writer.proofs.Rests.{due_step, due_few, due_opened, due_closed}
-use Rattle.lpm_writer.proofs.MakingStores.{IsUnderWayAt, at_first, allows_along, run_stopped, run_retired, run_over}
+use Rattle.lpm_writer.proofs.RunningStores.{IsUnderWayAt, at_first, allows_along, run_stopped, run_retired, run_over}
 use Rattle.lpm_writer.proofs.changes.change.Invariants.{memory}
 use Rattle.lpm_writer.proofs.changes.change.Given.{Over}
 use Rattle.std.specs.Prelude.{slice_set}
@@ -33,7 +33,7 @@ use Rattle.lpm_writer.proofs.Reclaims.{may_bump, keeps_bumped, may_make_room, st
 use Rattle.fib_model.specs.State.{MakesRoom, Reclaims}
 use Rattle.defer_queue.specs.declared.Reclaimed.{Reclaimed}
 use Rattle.lpm_writer.specs.Commands.{FreesBy}
-use Rattle.lpm_groups.proofs.Marking.{Retires-set}
+use Rattle.lpm_groups.proofs.Marks.{Retires-set}
 use Rattle.std.proofs.lemmas.List.{length-map}
 use Rattle.lpm_writer.proofs.changes.change.Goals.{After-open_update, After-bump-token, After-len}
 use Rattle.lpm_writer.proofs.changes.change.Lts.{Step-Joined1}

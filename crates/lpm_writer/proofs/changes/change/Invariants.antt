@@ -1,7 +1,7 @@
 use Rattle.std.proofs.Common.{◌≡◌}
 use Rattle.lpm_groups.specs.States.{linked_count}
 use Rattle.lpm_writer.proofs.UpdateRuns.{AsMemory}
-use Rattle.lpm_writer.proofs.MakingStores.{IsUnderWayAt}
+use Rattle.lpm_writer.proofs.RunningStores.{IsUnderWayAt}
 use Rattle.lpm_writer.proofs.changes.change.Given.{Over}
 use Rattle.lpm_writer.proofs.changes.change.Given as goal
 

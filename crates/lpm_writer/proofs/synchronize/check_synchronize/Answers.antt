@@ -2,7 +2,7 @@ use Rattle.std.proofs.Common.{◌≤◌, sym, subst, ◌∙◌}
 use Rattle.std.proofs.lemmas.Result.{on_ok_weaker}
 use Rattle.lpm_writer.specs.Traced.{Checks}
 use Rattle.lpm_writer.specs.GroupsMatch.{MayLoadCounters}
-use Rattle.lpm_writer.proofs.Awaiting.{asks_awaited, remembers_awaited, queued_passed, checked}
+use Rattle.lpm_writer.proofs.Waits.{asks_awaited, remembers_awaited, queued_passed, checked}
 use Rattle.lpm_writer.proofs.synchronize.check_synchronize.Goals as goal
 
 pub check_token-requires : goal.check_token-requires

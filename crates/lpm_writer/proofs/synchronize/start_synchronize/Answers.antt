@@ -1,6 +1,6 @@
 use Rattle.std.proofs.Common.{◌∷◌, refl}
 use Rattle.lpm_trace.specs.declared.step.WriterStep.TheVariants.{BumpToken}
-use Rattle.lpm_writer.proofs.Awaiting.{may_start, waits_started}
+use Rattle.lpm_writer.proofs.Waits.{may_start, waits_started}
 use Rattle.lpm_writer.proofs.synchronize.start_synchronize.Goals as goal
 
 pub bump-requires-clause-may : goal.bump-requires-clause-may

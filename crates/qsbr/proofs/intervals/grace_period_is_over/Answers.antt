@@ -1,4 +1,4 @@
-use Rattle.qsbr.proofs.Running.{grace_period_is_over as law}
+use Rattle.qsbr.proofs.RunningIntervals.{grace_period_is_over as law}
 use Rattle.qsbr.proofs.intervals.grace_period_is_over.Goals as goal
 
 pub returns : goal.returns

@@ -1,6 +1,6 @@
 use Rattle.std.proofs.Common.{◌-◌, ◌++◌, List, ℕ, drop, sym, ap, ◌∙◌, arith}
 use Rattle.std.proofs.lemmas.List.{append-nil, length-drop, take_all}
-use Rattle.route_text.proofs.Answering.{grown, done}
+use Rattle.route_text.proofs.AnswerLines.{grown, done}
 use Rattle.route_text.proofs.answers.answers_text.Goals as goal
 
 pub loop-done-preserved : goal.loop-done-preserved

@@ -1,7 +1,7 @@
 use Rattle.std.proofs.Common.{◌≡◌, ◌-◌, ◌+◌, ◌∷◌, ◌++◌, [], List, Option, ℕ, length, get_or, drop, sym, ap, ◌∙◌, arith, append_assoc}
 use Rattle.std.proofs.lemmas.List.{drop_all}
 use Rattle.route_text.specs.Texts.{address_text, hop_text, answer_line, answer_lines}
-use Rattle.route_text.proofs.Answering.{next, done}
+use Rattle.route_text.proofs.AnswerLines.{next, done}
 use Rattle.route_text.proofs.answers.write_lines.Goals as goal
 
 pub loop-left-init : goal.loop-left-init

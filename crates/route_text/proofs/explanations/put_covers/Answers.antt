@@ -1,6 +1,6 @@
 use Rattle.std.proofs.Common.{arith}
 use Rattle.route_text.specs.Explanation.{cover_line, cover_lines}
-use Rattle.route_text.proofs.Writing.{step_on, at_end}
+use Rattle.route_text.proofs.WrittenLines.{step_on, at_end}
 use Rattle.route_text.proofs.Covers.{next_cover, no_covers}
 use Rattle.route_text.proofs.explanations.put_covers.Goals as goal
 

@@ -1,6 +1,6 @@
 use Rattle.std.proofs.Common.{arith}
 use Rattle.route_text.specs.Texts.{outcome_line, outcome_lines}
-use Rattle.route_text.proofs.Writing.{step_on, at_end, next_outcome, no_outcomes}
+use Rattle.route_text.proofs.WrittenLines.{step_on, at_end, next_outcome, no_outcomes}
 use Rattle.route_text.proofs.outcomes.outcomes_text.Goals as goal
 
 pub loop-outcome-preserved : goal.loop-outcome-preserved

@@ -5,7 +5,7 @@ use Rattle.route_text.specs.Texts.{update_line, lines_of_updates, update_lines}
 use Rattle.route_text.specs.Updates.{AreUpdates, IsCountInRange}
 use Rattle.route_text.specs.Starts.{IsSound}
 use Rattle.route_text.proofs.Grammars.{one_file}
-use Rattle.route_text.proofs.Writing.{step_on, at_end, next_update, no_updates, read_back}
+use Rattle.route_text.proofs.WrittenLines.{step_on, at_end, next_update, no_updates, read_back}
 use Rattle.route_text.proofs.update_text.updates_text.Goals as goal
 
 -- the text is written to its end

@@ -1,5 +1,5 @@
 use Rattle.std.proofs.Common.{rules, ◌≡◌, ◌++◌, ◌∷◌, ◌%◌, [], length, slice_index, ◌∙◌}
-use Rattle.shared_fib.proofs.Packing.{put_even, put_odd}
+use Rattle.shared_fib.proofs.PackedWords.{put_even, put_odd}
 use Rattle.shared_fib.proofs.pack.pack.Goals as goal
 
 pub returns-in_ok-push-clause-items : goal.returns-in_ok-push-clause-items

@@ -1,7 +1,7 @@
 use Rattle.std.proofs.Common.{◌≡◌, length, ap, ◌∙◌, arith}
 use Rattle.shared_words.specs.Layout.{InitialData, word_count}
-use Rattle.shared_words.proofs.Laying.{opening_count}
-use Rattle.shared_words.proofs.Writing.{opens}
+use Rattle.shared_words.proofs.WordPlaces.{opening_count}
+use Rattle.shared_words.proofs.WriterRule.{opens}
 use Rattle.shared_words.proofs.words.open.Goals as goal
 
 pub of_words-requires : goal.of_words-requires

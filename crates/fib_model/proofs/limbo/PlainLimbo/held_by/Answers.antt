@@ -1,7 +1,7 @@
 use Rattle.std.proofs.Common.{arith, subst, reverse}
 use Rattle.qsbr.specs.Intervals.{IsRunningSince}
 use Rattle.fib_model.specs.Textbook.{by_reports}
-use Rattle.qsbr.proofs.Running.{held_start}
+use Rattle.qsbr.proofs.RunningIntervals.{held_start}
 use Rattle.fib_model.specs.Expected.{events_of}
 use Rattle.fib_model.proofs.limbo.PlainLimbo.held_by.Goals as goal
 

@@ -1,7 +1,7 @@
 use Rattle.std.proofs.Common.{ap, ◌∙◌}
 use Rattle.lpm_trace.specs.declared.step.WriterStep.TheVariants.{StoreSecond}
 use Rattle.interleave.specs.View.{WorldView}
-use Rattle.interleave.proofs.Reaching.{view_in, step_does_in}
+use Rattle.interleave.proofs.Turns.{view_in, step_does_in}
 use Rattle.interleave.proofs.WriterSteps.{with_recorded_step, with_unrecorded_step}
 use Rattle.interleave.proofs.memory.WorldMemoryCells.set_second.Goals as goal
 

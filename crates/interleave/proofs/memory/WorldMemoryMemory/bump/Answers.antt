@@ -3,7 +3,7 @@ use Rattle.lpm_trace.specs.declared.kind.Kind.TheVariants as kind
 use Rattle.lpm_trace.specs.declared.step.WriterStep.TheVariants.{BumpToken}
 use Rattle.interleave.specs.Record.{step_of_writer}
 use Rattle.interleave.specs.View.{WorldView}
-use Rattle.interleave.proofs.Reaching.{view_in, step_does_in}
+use Rattle.interleave.proofs.Turns.{view_in, step_does_in}
 use Rattle.interleave.proofs.WriterSteps.{with_recorded_step, with_unrecorded_step}
 use Rattle.interleave.proofs.memory.WorldMemoryMemory.bump.Goals as goal
 

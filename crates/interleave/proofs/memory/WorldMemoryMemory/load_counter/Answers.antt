@@ -2,7 +2,7 @@ use Rattle.std.proofs.Common.{◌≡◌, get_or, sym, subst, ap, ◌∙◌, arit
 use Rattle.lpm_trace.specs.declared.step.WriterStep.TheVariants.{LoadCounter}
 use Rattle.interleave.specs.Machine.{Shows}
 use Rattle.interleave.specs.View.{WorldView}
-use Rattle.interleave.proofs.Reaching.{step_does}
+use Rattle.interleave.proofs.Turns.{step_does}
 use Rattle.interleave.proofs.memory.WorldMemoryMemory.load_counter.Goals as goal
 
 pub reach-requires : goal.reach-requires

@@ -1,6 +1,6 @@
 use Rattle.std.proofs.Common.{arith}
 use Rattle.lpm_trace.specs.declared.step.WriterStep.TheVariants.{BeginUpdate}
-use Rattle.interleave.proofs.Reaching.{sequence_low, step_does}
+use Rattle.interleave.proofs.Turns.{sequence_low, step_does}
 use Rattle.interleave.proofs.memory.WorldMemoryMemory.open_update.Goals as goal
 
 pub bump_sequence-requires : goal.bump_sequence-requires

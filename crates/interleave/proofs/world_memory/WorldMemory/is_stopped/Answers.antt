@@ -1,7 +1,7 @@
 use Rattle.std.proofs.Common.{◌≡◌, ◌<◌, ◌↔◌, true, length, sym, subst}
 use Rattle.interleave.specs.World.{writer_items, WorldDid}
 use Rattle.interleave.specs.View.{WorldView}
-use Rattle.interleave.proofs.Reaching.{view_in, stopped_late}
+use Rattle.interleave.proofs.Turns.{view_in, stopped_late}
 use Rattle.interleave.proofs.world_memory.WorldMemory.is_stopped.Goals as goal
 
 pub returns : goal.returns

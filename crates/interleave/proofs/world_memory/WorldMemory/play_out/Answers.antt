@@ -2,7 +2,7 @@ use Rattle.std.proofs.Common.{rules, ◌≡◌, ◌+◌, ◌<◌, length, get_or
 use Rattle.lpm_trace.specs.declared.kind.Actor.TheVariants.{Writer as WriterActor, Worker as WorkerActor}
 use Rattle.interleave.specs.View.{WorldView}
 use Rattle.interleave.specs.World.{IsWritersTurn, StaysShared}
-use Rattle.interleave.proofs.Reaching.{view_in, PlaysOn, shared_more, within, plays_start, plays_turn, plays_pass, plays_end}
+use Rattle.interleave.proofs.Turns.{view_in, PlaysOn, shared_more, within, plays_start, plays_turn, plays_pass, plays_end}
 use Rattle.interleave.proofs.Items.{item_there}
 use Rattle.interleave.proofs.world_memory.WorldMemory.play_out.Goals as goal
 

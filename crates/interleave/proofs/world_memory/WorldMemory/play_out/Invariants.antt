@@ -1,6 +1,6 @@
 use Rattle.std.proofs.Common.{◌-◌, length}
 use Rattle.interleave.specs.World.{StaysShared}
-use Rattle.interleave.proofs.Reaching.{PlaysOn}
+use Rattle.interleave.proofs.Turns.{PlaysOn}
 use Rattle.interleave.proofs.world_memory.WorldMemory.play_out.Given as goal
 
 abbrev pub invariant-loop-self : goal.invariant-loop-self

@@ -3,7 +3,7 @@ use Rattle.lpm_trace.specs.declared.kind.Actor.TheVariants.{Writer as WriterActo
 use Rattle.interleave.specs.World.{writer_items, IsWritersTurn}
 use Rattle.interleave.specs.View.{WorldView}
 use Rattle.interleave.proofs.Items.{item_there}
-use Rattle.interleave.proofs.Reaching.{shared_more, reach_more, within, some_left, none_left}
+use Rattle.interleave.proofs.Turns.{shared_more, reach_more, within, some_left, none_left}
 use Rattle.interleave.proofs.world_memory.WorldMemory.reach.Goals as goal
 
 pub turn-requires : goal.turn-requires

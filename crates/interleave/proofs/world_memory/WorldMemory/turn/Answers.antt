@@ -8,8 +8,8 @@ use Rattle.interleave.specs.Scripts.{IsDone, steps_by}
 use Rattle.interleave.specs.declared.shared.Shared.{Shared}
 use Rattle.interleave.specs.View.{WorldView, script_at}
 use Rattle.interleave.specs.World.{IsWorld}
-use Rattle.interleave.proofs.Reaching.{view_in}
-use Rattle.interleave.proofs.Turning.{moved_by, four_at_most, turn_passes, turn_moves, is_of, stands, sequence_within}
+use Rattle.interleave.proofs.Turns.{view_in}
+use Rattle.interleave.proofs.WorkerTurn.{moved_by, four_at_most, turn_passes, turn_moves, is_of, stands, sequence_within}
 use Rattle.interleave.proofs.world_memory.WorldMemory.turn.Goals as goal
 
 pub returns-then-worker-self-clause-turn : goal.returns-then-worker-self-clause-turn

@@ -1,6 +1,6 @@
 use Rattle.std.proofs.Common.{rules, arith, ◌+◌, ◌^◌, ◌/◌, ◌%◌}
 use Rattle.lpm_cells.specs.declared.entry.Entry.TheVariants.{Miss, Hop, Group}
-use Rattle.lpm_cells.proofs.Reading.{read_back}
+use Rattle.lpm_cells.proofs.ReadBack.{read_back}
 use Rattle.lpm_cells.proofs.entry.Entry.from_word.Goals as goal
 
 pub returns-in-0-clause-reads : goal.returns-in-0-clause-reads

@@ -1,6 +1,6 @@
 use Rattle.std.proofs.Common.{arith, ◌*◌, ◌^◌, replicate, ap, ◌∙◌}
 use Rattle.std.proofs.lemmas.Nat.{one_shl, shl_whole}
-use Rattle.lpm_cells.proofs.Reading.{blank}
+use Rattle.lpm_cells.proofs.ReadBack.{blank}
 use Rattle.lpm_cells.proofs.plain.PlainCells.new.Goals as goal
 
 pub invariant_of-result : goal.invariant_of-result

@@ -1,5 +1,5 @@
 use Rattle.std.proofs.Common.{arith, ◌+◌, ◌^◌, ◌<◌, rules}
-use Rattle.lpm_cells.proofs.Reading.{word_below}
+use Rattle.lpm_cells.proofs.ReadBack.{word_below}
 use Rattle.lpm_cells.proofs.plain.PlainCellsCells.set_second.Goals as goal
 
 pub overflow_cast-word : goal.overflow_cast-word

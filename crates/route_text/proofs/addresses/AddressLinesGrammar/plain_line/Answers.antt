@@ -1,5 +1,5 @@
 use Rattle.std.proofs.Common.{drop}
-use Rattle.route_text.proofs.Writing.{plain_address_line}
+use Rattle.route_text.proofs.WrittenLines.{plain_address_line}
 use Rattle.route_text.proofs.addresses.AddressLinesGrammar.plain_line.Goals as goal
 
 pub returns-clause-line : goal.returns-clause-line

@@ -1,7 +1,7 @@
 use Rattle.std.proofs.Common.{drop, arith, sym, subst}
 use Rattle.route_text.specs.declared.lines.End.TheVariants as ends
 use Rattle.route_text.specs.Starts.{StartsNumberBefore}
-use Rattle.route_text.proofs.Writing.{plain_route_line}
+use Rattle.route_text.proofs.WrittenLines.{plain_route_line}
 use Rattle.route_text.proofs.Octets.{wider}
 use Rattle.route_text.proofs.routes.RouteLinesGrammar.plain_line.Goals as goal
 

@@ -1,7 +1,7 @@
 use Rattle.std.proofs.Common.{rules, arith, ℕ, List, sym, subst}
 use Rattle.shared_fib.specs.declared.pairs.Pairs.TheInside.{Inside}
 use Rattle.shared_fib.specs.Pairs.{ArePairs}
-use Rattle.shared_fib.proofs.Packing.{HasEven, HasNearly, evened, was_even, by_twos, no_twos, by_one, by_none}
+use Rattle.shared_fib.proofs.PackedWords.{HasEven, HasNearly, evened, was_even, by_twos, no_twos, by_one, by_none}
 use Rattle.shared_fib.proofs.pairs.Pairs.grow.Goals.{then-self-eq1, else-self-eq1, then-pairs-gt0+in_ok-resize, else-pairs-gt0}
 use Rattle.shared_fib.proofs.pairs.Pairs.grow.Goals as goal
 

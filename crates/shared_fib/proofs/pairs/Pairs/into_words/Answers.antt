@@ -1,6 +1,6 @@
 use Rattle.std.proofs.Common.{ℕ, List, ◌∷◌, ap, ◌∙◌}
 use Rattle.shared_words.specs.Layout.{packed_words}
-use Rattle.shared_fib.proofs.Packing.{packed_whole}
+use Rattle.shared_fib.proofs.PackedWords.{packed_whole}
 use Rattle.shared_fib.proofs.pairs.Pairs.into_words.Goals as goal
 
 pub returns : goal.returns

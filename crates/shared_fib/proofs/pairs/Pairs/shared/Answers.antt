@@ -1,7 +1,7 @@
 use Rattle.std.proofs.Common.{drop, ap, ◌∙◌}
 use Rattle.std.proofs.lemmas.List.{take_rest}
 use Rattle.shared_words.specs.Layout.{packed_words}
-use Rattle.shared_fib.proofs.Packing.{packed_behind}
+use Rattle.shared_fib.proofs.PackedWords.{packed_behind}
 use Rattle.shared_fib.proofs.pairs.Pairs.shared.Goals as goal
 
 pub returns : goal.returns

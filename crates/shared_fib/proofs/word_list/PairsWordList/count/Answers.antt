@@ -1,4 +1,4 @@
-use Rattle.shared_fib.proofs.Packing.{count_is}
+use Rattle.shared_fib.proofs.PackedWords.{count_is}
 use Rattle.shared_fib.proofs.word_list.PairsWordList.count.Goals as goal
 
 pub returns : goal.returns

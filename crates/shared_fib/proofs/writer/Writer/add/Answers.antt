@@ -1,5 +1,5 @@
 use Rattle.std.proofs.Common.{rules}
-use Rattle.shared_fib.proofs.Leading.{added}
+use Rattle.shared_fib.proofs.CommandSteps.{added}
 use Rattle.shared_fib.proofs.writer.Writer.add.Goals as goal
 
 pub invariant_of-self : goal.invariant_of-self

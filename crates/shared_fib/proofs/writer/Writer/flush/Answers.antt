@@ -1,5 +1,5 @@
 use Rattle.std.proofs.Common.{rules}
-use Rattle.shared_fib.proofs.Leading.{flushed}
+use Rattle.shared_fib.proofs.CommandSteps.{flushed}
 use Rattle.shared_fib.proofs.writer.Writer.flush.Goals as goal
 
 pub invariant_of-self : goal.invariant_of-self

@@ -1,5 +1,5 @@
 use Rattle.std.proofs.Common.{refl, rules}
-use Rattle.shared_words.proofs.Reading.{begins_allowed, phase_inside}
+use Rattle.shared_words.proofs.WorkerSteps.{begins_allowed, phase_inside}
 use Rattle.shared_words.proofs.worker.WorkerSeat.begin_lookup.Goals as goal
 
 pub load_as-requires-clause-allowed : goal.load_as-requires-clause-allowed

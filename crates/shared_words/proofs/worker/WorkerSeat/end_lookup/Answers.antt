@@ -1,7 +1,7 @@
 use Rattle.std.proofs.Common.{refl, arith, sym, subst}
 use Rattle.lpm_trace.specs.Trace.{worker_by, AreAnswered}
 use Rattle.shared_words.specs.Seats.{WorkerAt}
-use Rattle.shared_words.proofs.Reading.{ends_allowed, own_inside, phase_inside}
+use Rattle.shared_words.proofs.WorkerSteps.{ends_allowed, own_inside, phase_inside}
 use Rattle.shared_words.proofs.worker.WorkerSeat.end_lookup.Goals as goal
 
 pub load-requires : goal.load-requires

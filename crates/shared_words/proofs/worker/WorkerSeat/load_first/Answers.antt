@@ -1,5 +1,5 @@
 use Rattle.std.proofs.Common.{rules}
-use Rattle.shared_words.proofs.Reading.{first_allowed, phase_inside}
+use Rattle.shared_words.proofs.WorkerSteps.{first_allowed, phase_inside}
 use Rattle.shared_words.proofs.worker.WorkerSeat.load_first.Goals as goal
 
 pub load_as-shared-requires-clause-allowed : goal.load_as-shared-requires-clause-allowed

@@ -1,5 +1,5 @@
 use Rattle.shared_words.specs.Layout.{half}
-use Rattle.shared_words.proofs.Reading.{WorkerGainsFirst}
+use Rattle.shared_words.proofs.WorkerSteps.{WorkerGainsFirst}
 use Rattle.shared_words.proofs.worker.WorkerSeat.load_first.Given as goal
 
 abbrev pub ghosts-load_as : goal.ghosts-load_as

@@ -1,5 +1,5 @@
 use Rattle.std.proofs.Common.{refl, arith}
-use Rattle.shared_words.proofs.Reading.{load_online_allowed, own_inside, phase_inside}
+use Rattle.shared_words.proofs.WorkerSteps.{load_online_allowed, own_inside, phase_inside}
 use Rattle.shared_words.proofs.worker.WorkerSeat.load_online.Goals as goal
 
 pub load-requires : goal.load-requires

@@ -1,5 +1,5 @@
 use Rattle.std.proofs.Common.{rules}
-use Rattle.shared_words.proofs.Reading.{second_allowed, phase_inside}
+use Rattle.shared_words.proofs.WorkerSteps.{second_allowed, phase_inside}
 use Rattle.shared_words.proofs.worker.WorkerSeat.load_second.Goals as goal
 
 pub load_as-shared-requires-clause-allowed : goal.load_as-shared-requires-clause-allowed

@@ -1,5 +1,5 @@
 use Rattle.shared_words.specs.Layout.{half}
-use Rattle.shared_words.proofs.Reading.{WorkerGainsSecond}
+use Rattle.shared_words.proofs.WorkerSteps.{WorkerGainsSecond}
 use Rattle.shared_words.proofs.worker.WorkerSeat.load_second.Given as goal
 
 abbrev pub ghosts-load_as : goal.ghosts-load_as

@@ -3,7 +3,7 @@ use Rattle.atomic_table.specs.Table.{Me}
 use Rattle.lpm_trace.specs.Trace.{IsBetweenDeeds, worker_by}
 use Rattle.shared_words.specs.declared.view.View.{View}
 use Rattle.shared_words.specs.Seats.{WorkerAt}
-use Rattle.shared_words.proofs.Reading.{meets_allowed, own_inside, writer_inside}
+use Rattle.shared_words.proofs.WorkerSteps.{meets_allowed, own_inside, writer_inside}
 use Rattle.shared_words.proofs.Deeds.{notes_split, notes_join, compares_allowed}
 use Rattle.shared_words.proofs.worker.WorkerSeat.meet_writer.Goals as goal
 

@@ -1,4 +1,4 @@
-use Rattle.shared_words.proofs.Reading.{store_online_allowed, own_inside, phase_inside, at_counter}
+use Rattle.shared_words.proofs.WorkerSteps.{store_online_allowed, own_inside, phase_inside, at_counter}
 use Rattle.shared_words.proofs.worker.WorkerSeat.store_online.Goals as goal
 
 pub store-requires : goal.store-requires

@@ -1,4 +1,4 @@
-use Rattle.shared_words.proofs.Reading.{store_quiescent_allowed, own_inside, phase_inside, at_counter}
+use Rattle.shared_words.proofs.WorkerSteps.{store_quiescent_allowed, own_inside, phase_inside, at_counter}
 use Rattle.shared_words.proofs.worker.WorkerSeat.store_quiescent.Goals as goal
 
 pub store-requires : goal.store-requires

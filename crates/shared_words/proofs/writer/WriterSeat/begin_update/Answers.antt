@@ -1,7 +1,7 @@
 use Rattle.std.proofs.Common.{refl, rules}
 use Rattle.lpm_trace.specs.declared.step.WriterStep.TheVariants.{BeginUpdate}
-use Rattle.shared_words.proofs.Reading.{may_inside}
-use Rattle.shared_words.proofs.Writing.{opens_allowed}
+use Rattle.shared_words.proofs.WorkerSteps.{may_inside}
+use Rattle.shared_words.proofs.WriterRule.{opens_allowed}
 use Rattle.shared_words.proofs.writer.WriterSeat.begin_update.Goals as goal
 
 pub store_as-requires-clause-allowed : goal.store_as-requires-clause-allowed

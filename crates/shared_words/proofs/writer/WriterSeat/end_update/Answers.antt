@@ -1,7 +1,7 @@
 use Rattle.std.proofs.Common.{refl, arith}
 use Rattle.lpm_trace.specs.declared.step.WriterStep.TheVariants.{EndUpdate}
-use Rattle.shared_words.proofs.Writing.{closes_allowed}
-use Rattle.shared_words.proofs.Reading.{in_table, may_inside, next_inside}
+use Rattle.shared_words.proofs.WriterRule.{closes_allowed}
+use Rattle.shared_words.proofs.WorkerSteps.{in_table, may_inside, next_inside}
 use Rattle.shared_words.proofs.writer.WriterSeat.end_update.Goals as goal
 
 pub store-requires : goal.store-requires

@@ -1,7 +1,7 @@
 use Rattle.std.proofs.Common.{rules}
 use Rattle.lpm_trace.specs.declared.step.WriterStep.TheVariants.{LoadCounter}
-use Rattle.shared_words.proofs.Reading.{may_inside}
-use Rattle.shared_words.proofs.Writing.{counter_allowed}
+use Rattle.shared_words.proofs.WorkerSteps.{may_inside}
+use Rattle.shared_words.proofs.WriterRule.{counter_allowed}
 use Rattle.shared_words.proofs.writer.WriterSeat.load_worker_counter.Goals as goal
 
 pub load_as-requires-clause-allowed : goal.load_as-requires-clause-allowed

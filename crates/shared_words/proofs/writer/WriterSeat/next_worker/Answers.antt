@@ -1,8 +1,8 @@
 use Rattle.std.proofs.Common.{◌<◌, arith, ap}
 use Rattle.shared_words.specs.Layout.{InitialData}
 use Rattle.shared_words.specs.Seats.{WordsAt, WriterAt}
-use Rattle.shared_words.proofs.Reading.{writer_inside}
-use Rattle.shared_words.proofs.Writing.{next_worker_allowed}
+use Rattle.shared_words.proofs.WorkerSteps.{writer_inside}
+use Rattle.shared_words.proofs.WriterRule.{next_worker_allowed}
 use Rattle.shared_words.proofs.writer.WriterSeat.next_worker.Goals as goal
 
 pub split_seat-place-requires : goal.split_seat-place-requires

@@ -1,6 +1,6 @@
 use Rattle.std.proofs.Common.{◌∙◌, rules}
-use Rattle.shared_words.proofs.Reading.{looks, first_inside, writer_inside}
-use Rattle.shared_words.proofs.Writing.{first_allowed}
+use Rattle.shared_words.proofs.WorkerSteps.{looks, first_inside, writer_inside}
+use Rattle.shared_words.proofs.WriterRule.{first_allowed}
 use Rattle.shared_words.proofs.writer.WriterSeat.store_first.Goals as goal
 
 pub load-found-requires : goal.load-found-requires

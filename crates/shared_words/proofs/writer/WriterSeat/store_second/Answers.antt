@@ -1,8 +1,8 @@
 use Rattle.std.proofs.Common.{◌∙◌, ap, refl, arith, rules}
 use Rattle.std.proofs.lemmas.Grind.{common_steps}
 use Rattle.shared_words.specs.Seats.{WordsAt}
-use Rattle.shared_words.proofs.Reading.{looks, second_inside, writer_inside}
-use Rattle.shared_words.proofs.Writing.{second_allowed}
+use Rattle.shared_words.proofs.WorkerSteps.{looks, second_inside, writer_inside}
+use Rattle.shared_words.proofs.WriterRule.{second_allowed}
 use Rattle.shared_words.proofs.writer.WriterSeat.store_second.Goals as goal
 
 pub second_at-at-requires : goal.second_at-at-requires

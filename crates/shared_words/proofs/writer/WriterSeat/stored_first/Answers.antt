@@ -1,6 +1,6 @@
 use Rattle.std.proofs.Common.{arith, ap, rules}
 use Rattle.shared_words.specs.Seats.{WordsAt}
-use Rattle.shared_words.proofs.Reading.{looks}
+use Rattle.shared_words.proofs.WorkerSteps.{looks}
 use Rattle.shared_words.proofs.writer.WriterSeat.stored_first.Goals as goal
 
 pub load-requires : goal.load-requires

@@ -1,5 +1,5 @@
 use Rattle.std.proofs.Common.{arith, rules}
-use Rattle.shared_words.proofs.Reading.{looks}
+use Rattle.shared_words.proofs.WorkerSteps.{looks}
 use Rattle.shared_words.proofs.writer.WriterSeat.stored_sequence.Goals as goal
 
 pub load-requires : goal.load-requires

@@ -11,7 +11,7 @@ use Rattle.lpm_cells.specs.Words.{IsLast, entry_in, group_in, Words, with_first,
 use Rattle.lpm_groups.specs.declared.GroupState.{GroupState}
 use Rattle.lpm_groups.specs.declared.GroupState.TheVariants.{Free, Linked as LinkedTo, Limbo}
 use Rattle.lpm_groups.specs.States.{IsLinkedTo, IsFreeAt}
-use Rattle.lpm_groups.proofs.Marking.{slice_get-set_same, slice_get-set_other}
+use Rattle.lpm_groups.proofs.Marks.{slice_get-set_same, slice_get-set_other}
 use Rattle.defer_queue.specs.Retired.{IsAbsent}
 use Rattle.lpm_update.specs.declared.Did.{Did}
 use Rattle.lpm_update.specs.declared.link_group.LinkGroup.{LinkGroup}
@@ -44,7 +44,7 @@ use Rattle.lpm_writer.proofs.LimboItems.{absent_other, free_limbo, free_linked, 
 use Rattle.lpm_writer.proofs.Reclaims.{kept_quiet, linked_not_retired}
 use Rattle.lpm_writer.proofs.NextStores.{none_some, filling_same, second_kind, IsFirstKind, turned_on}
 use Rattle.lpm_writer.proofs.StepsAlone.{IsStoreOf, StoresNothing, passed_on, new_word}
-use Rattle.lpm_writer.proofs.Making.{HasPassedStore, HasPassedStores, IsMaking, answer_after}
+use Rattle.lpm_writer.proofs.RunningUpdate.{HasPassedStore, HasPassedStores, IsMaking, answer_after}
 
 -- ---- the group that is filled
 

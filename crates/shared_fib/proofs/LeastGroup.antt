@@ -8,11 +8,11 @@ use Rattle.std.proofs.lemmas.Option.{slice_get_within, slice_get-get_or}
 use Rattle.lpm_cells.specs.declared.entry.Entry.{Entry}
 use Rattle.lpm_cells.specs.declared.entry.Entry.TheVariants.{Miss, Hop, Group}
 use Rattle.lpm_cells.specs.Words.{entry_in, group_in}
-use Rattle.lpm_cells.proofs.Reading.{entry_in_zero}
+use Rattle.lpm_cells.proofs.ReadBack.{entry_in_zero}
 use Rattle.lpm_groups.specs.declared.GroupState.{GroupState}
 use Rattle.lpm_groups.specs.declared.GroupState.TheVariants.{Free, Linked, Limbo}
 use Rattle.lpm_groups.specs.States.{IsLinkedTo, IsLimboAt, limbo_count}
-use Rattle.lpm_groups.proofs.Marking.{Releases-set}
+use Rattle.lpm_groups.proofs.Marks.{Releases-set}
 use Rattle.lpm_update.proofs.Unlinks.{some_group}
 use Rattle.defer_queue.specs.Retired.{IsAbsent}
 use Rattle.lpm_limits.specs.declared.config.Config.{Config}
@@ -32,7 +32,7 @@ use Rattle.shared_words.specs.Layout.{InitialData, initial_state_of}
 use Rattle.shared_fib.specs.Freed.{HasGroup, IsGivenUp, IsOccupied, TakesLeast}
 use Rattle.lpm_writer.proofs.Initial.{no_group}
 use Rattle.lpm_writer.proofs.Reclaims.{linked_not_retired}
-use Rattle.lpm_writer.proofs.Storing.{retired_token}
+use Rattle.lpm_writer.proofs.AfterStore.{retired_token}
 use Rattle.shared_fib.proofs.Live.{never_retired}
 
 -- ---- groups that are given up

@@ -22,7 +22,7 @@ use Rattle.std.proofs.Math.Seq.{get_or-append_seam}
 use Rattle.std.proofs.Math.Nat.{mul-le-mul_right}
 use Rattle.lpm_rules.specs.Deep.{IsDeepBlock}
 use Rattle.std.specs.FinMap.{empty, get-empty}
-use Rattle.lpm_cells.proofs.Reading.{entry_in_zero}
+use Rattle.lpm_cells.proofs.ReadBack.{entry_in_zero}
 use Rattle.lpm_rules.proofs.Views.{networks_empty, not_some}
 
 -- Groups that are linked to the swept blocks, one after another, and free ones behind them.

@@ -18,7 +18,7 @@ use Rattle.defer_queue.specs.declared.Reclaimed.{Reclaimed}
 use Rattle.defer_queue.specs.Reclaims.{Ends, FreesFront}
 use Rattle.fib_model.specs.State.{State, Transitions, HasTokens, IsExhausted, Reclaims, MakesRoom, UnlinksOne, Unlinks}
 use Rattle.fib_model.specs.Outcomes.{groups_in_use, LacksGroup, TakesGroup, IsNew, HoldsFront, Updates, Adds, Shrinks, Deletes, Flushes, Frees}
-use Rattle.fib_model.proofs.Carrying.{AreNamed, IsCarried, Carries, AreFollowed, beside, Follows, ChangesCarryOver}
+use Rattle.fib_model.proofs.TwoWays.{AreNamed, IsCarried, Carries, AreFollowed, beside, Follows, ChangesCarryOver}
 
 -- ---- lists of names
 

@@ -15,7 +15,7 @@ use Rattle.lpm_rules.specs.declared.Put.TheVariants.{Added, Replaced, Unchanged}
 use Rattle.defer_queue.specs.declared.Reclaimed.{Reclaimed}
 use Rattle.fib_model.specs.State.{State, Transitions, Reclaims, MakesRoom, Unlinks, UnlinksOne}
 use Rattle.fib_model.specs.Outcomes.{Adds, Deletes, Flushes, Frees, HoldsFront, Shrinks, TakesGroup, Updates, groups_in_use}
-use Rattle.fib_model.proofs.Carried.{lacks_or_not}
+use Rattle.fib_model.proofs.Relations.{lacks_or_not}
 use Rattle.lpm_trace.specs.declared.step.WriterStep.{WriterStep}
 use Rattle.lpm_trace.specs.declared.step.WriterStep.TheVariants.{StoreFirst, BeginUpdate, EndUpdate, BumpToken, LoadCounter}
 use Rattle.lpm_trace.specs.Writer.{token_after}
@@ -39,7 +39,7 @@ use Rattle.shared_fib.specs.Freed.{FreesChecked, TakesLeast}
 use Rattle.shared_fib.proofs.Checked.{frees_checked}
 use Rattle.shared_fib.proofs.Freed.{Leaves, adds_leave, deletes_leave, flushes_leave, reclaims_leave}
 use Rattle.shared_fib.proofs.Seated.{Kept, kept, unseeing, does_in, stays, rests_after}
-use Rattle.shared_fib.proofs.Taking.{takes_least}
+use Rattle.shared_fib.proofs.LeastGroup.{takes_least}
 use Rattle.defer_queue.specs.Reclaims as queue
 
 -- The steps that a command leaves go on from those before it.

@@ -6,7 +6,7 @@ use Rattle.std.proofs.lemmas.List.{get_or-take, get_or-drop, get_or_past, ext_ge
 use Rattle.std.proofs.lemmas.List.FromFn.{map-range_with_len_more, length-map-range_with_len, get_or-map-range_with_len}
 use Rattle.shared_words.specs.Layout.{pair_at, packed_words, pairs, half, first_at, sequence_at}
 use Rattle.std.proofs.lemmas.Bool.{cases_eq, cases_lt}
-use Rattle.shared_words.proofs.Laying.{half_even, half_odd, low_half, high_half, even_or_odd, packed_at, packed_length}
+use Rattle.shared_words.proofs.WordPlaces.{half_even, half_odd, low_half, high_half, even_or_odd, packed_at, packed_length}
 use Rattle.shared_fib.specs.Pairs.{ArePairs, unpacked_pairs}
 
 -- the first two of what is left from pair a on

@@ -14,7 +14,7 @@ use Rattle.interleave.specs.World.{HasEnded, IsScheduled, AreScripted, writer_it
 use Rattle.lpm_trace.proofs.Grace.{older_trace}
 use Rattle.lpm_trace.proofs.Versions.{by_number}
 use Rattle.interleave.proofs.Items.{one_each, one_at_most, items_left, items_all, items_used, used_all, makes_still}
-use Rattle.interleave.proofs.Turning.{passed_by, trace_stays, turn_passes, none_beyond, FindsShown, sequence_within, recorded_does, unrecorded_does}
+use Rattle.interleave.proofs.WorkerTurn.{passed_by, trace_stays, turn_passes, none_beyond, FindsShown, sequence_within, recorded_does, unrecorded_does}
 use Rattle.interleave.proofs.WriterSteps.{with_recorded_step, with_unrecorded_step}
 use Rattle.std.specs.Prelude.{MatchBool}
 use Rattle.lpm_writer.specs.Plain.{MayBeNext}

@@ -24,7 +24,7 @@ use Rattle.lpm_writer.specs.declared.pool.GroupPool.{GroupPool}
 use Rattle.lpm_writer.specs.Limbo.{IsQueued, tokens_of}
 use Rattle.lpm_writer.specs.GroupsMatch.{GroupsMatchSteps}
 use Rattle.lpm_writer.proofs.GivenUp.{HasUnlinked, HasRetired, Retires}
-use Rattle.lpm_writer.proofs.Making.{MayMake, HasMade}
+use Rattle.lpm_writer.proofs.RunningUpdate.{MayMake, HasMade}
 use Rattle.lpm_writer.proofs.UpdateRuns.{AsMemory, Runs, run_begins, begun_come, allows_first, allows_second, allows_unlink, run_first, run_second, unlinked_on, run_unlinked, run_ended}
 use Rattle.lpm_writer.proofs.LimboItems.{some_linked, few_linked}
 

@@ -14,13 +14,13 @@ use Rattle.shared_words.specs.declared.view.View.{View}
 use Rattle.shared_words.specs.Layout.{InitialData, initial_state_of, half, first_at, second_at, sequence_at, token_at, counter_at, pairs}
 use Rattle.shared_words.specs.Rule.{Holds}
 use Rattle.shared_words.specs.Seats.{IsFirstAt, IsSecondAt, WorkerGains, IsOf, WordsAt, WorkerAt, IsWorkerSeat, WriterAt, WriterLooks, MayFollow, state_of_view}
-use Rattle.shared_words.proofs.Workings.{IsQuiet, St, load_allowed, plain, store_allowed}
+use Rattle.shared_words.proofs.WorkerRule.{IsQuiet, St, load_allowed, plain, store_allowed}
 use mathlib.Core.Option.{none}
 use Rattle.atomic_table.specs.Seated.{TableId}
 use Rattle.lpm_trace.specs.declared.step.WriterStep.{WriterStep}
 use Rattle.lpm_trace.specs.declared.step.WriterStep.TheVariants.{StoreFirst, StoreSecond}
-use Rattle.shared_words.proofs.Laying.{firsts_length, seconds_length}
-use Rattle.shared_words.proofs.Writing.{looks_allowed}
+use Rattle.shared_words.proofs.WordPlaces.{firsts_length, seconds_length}
+use Rattle.shared_words.proofs.WriterRule.{looks_allowed}
 
 -- it gains the load of a first word, which may stand in the first table
 abbrev pub WorkerGainsFirst : Me (Unit {0}) View → ℕ → Me (Unit {0}) View → Type 0

@@ -23,8 +23,8 @@ use Rattle.shared_words.specs.declared.view.View.{View}
 use Rattle.shared_words.specs.Layout.{InitialData, initial_state_of, half, first_at, second_at, sequence_at, token_at, counter_at, IsLaidOut}
 use Rattle.shared_words.specs.Rule.{Seating, Sits, IsViewOf, Holds}
 use Rattle.shared_words.specs.Seats.{IsSound, Gains, WorkerGains}
-use Rattle.shared_words.proofs.Laying.{lays_same}
-use Rattle.shared_words.proofs.Writing.{seats_set}
+use Rattle.shared_words.proofs.WordPlaces.{lays_same}
+use Rattle.shared_words.proofs.WriterRule.{seats_set}
 
 -- the step leaves the worker's counter
 abbrev pub IsQuiet : WorkerStep → Type 0
