@@ -41,11 +41,11 @@ fn meet_all<const FIRST: u32, const SECOND: u32>(
     ensures met { EachDesk (HasMet writer.old) desks.old desks.new }
     ensures same { writer.new ≡ writer.old }
 {
-    writer.at_rest();
+    writer.table_rests();
     for number in 0..desks.len() {
         let pass = &mut desks[number].pass;
         pass.meet(table, writer);
-        pass.history();
+        pass.history_is_sound();
     }
 }
 

@@ -190,7 +190,7 @@ impl<const FIRST: u32, const SECOND: u32> Fib<FIRST, SECOND> {
     pub fn next_rule(&self, after: Option<Prefix<FIRST, SECOND>>) -> Option<Rule<FIRST, SECOND>>
         ensures { IsNextRule self.now.table.rules after.entry result }
     {
-        self.control.rules.next_rule(after)
+        self.control.rules.next_after(after)
     }
 
     /// The rule that answers the address: that of the longest prefix of the address that has a rule. It
@@ -200,7 +200,7 @@ impl<const FIRST: u32, const SECOND: u32> Fib<FIRST, SECOND> {
         requires { addr < 2 ^ (FIRST + SECOND) }
         ensures { IsMatch FIRST SECOND self.now.table.rules addr result }
     {
-        self.control.rules.lookup_rule(addr)
+        self.control.rules.longest_rule(addr)
     }
 
     /// The number of rules.

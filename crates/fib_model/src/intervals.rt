@@ -20,7 +20,7 @@ fn since_after(event: Event, w: usize, place: usize, since: Option<usize>) -> Op
 }
 
 /// Where the worker's running reader interval began, if one runs.
-pub(crate) fn running(events: &[Event], w: usize) -> Option<usize>
+pub(crate) fn interval_start(events: &[Event], w: usize) -> Option<usize>
     ensures { MatchOption result ((s : ℕ) → IsRunningSince by_reports (reverse events.now) w s → ⊥)
         (λ s. IsRunningSince by_reports (reverse events.now) w s) }
 {

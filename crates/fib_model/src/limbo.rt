@@ -5,7 +5,7 @@ ghost use Rattle.lpm_limits.specs.Limits.{IsConfig};
 ghost use Rattle.fib_model.specs.Outcomes as outcomes;
 ghost use Rattle.fib_model.specs.Textbook as book;
 
-use crate::intervals::{running, token_at};
+use crate::intervals::{interval_start, token_at};
 use crate::{Event, Outcome, ReaderReport};
 use defer_queue::Reclaimed;
 use lpm_limits::{Busy, Config, Refusal};
@@ -59,7 +59,7 @@ impl PlainLimbo {
             × (busy.counter
             ≡ config.now.first_token + unlinkings_before (events_of self.now) start))) }
     {
-        let start = running(&self.events, worker)?;
+        let start = interval_start(&self.events, worker)?;
         if start >= place {
             return None;
         }
@@ -205,7 +205,7 @@ impl PlainLimbo {
         ensures no { IsFalse result → (rules : RuleMap) (begun : ℕ)
             → ¬ MayReport (by_intervals config.now) (state_with rules begun self.now) report worker }
     {
-        let is_online = running(&self.events, worker).is_some();
+        let is_online = interval_start(&self.events, worker).is_some();
         match report {
             ReaderReport::Online => !is_online,
             ReaderReport::Offline | ReaderReport::Quiescent => is_online,

@@ -4,7 +4,7 @@ ghost use Rattle.lpm_limits.specs.Limits.{IsConfig};
 ghost use Rattle.lpm_files.specs.Output.{Writes, WritesBeginning};
 ghost use Rattle.lpm_commands.specs.Explain.{IsExplanation, AreExplanations, ExplainsBy, IsExplainText, EndsExplain};
 
-use crate::explanation::{covering_rules, reading};
+use crate::explanation::{covering_rules, reading_of};
 use crate::tables::load;
 use fib::Fib;
 use lpm_cells::PlainCells;
@@ -83,5 +83,5 @@ fn put_explained(
         × (text.new.items ≡ text.old.items ++ here)) }
 {
     let found = covering_rules(alloc, rules, addr)?;
-    put_explanation(text, addr, &found, reading(cells, addr))
+    put_explanation(text, addr, &found, reading_of(cells, addr))
 }

@@ -74,7 +74,7 @@ fn rule_of_length<const FIRST: u32, const SECOND: u32>(
 
 /// The words that a lookup of the address reads in these tables: one, or two where the first one
 /// names a group.
-pub fn reading<const FIRST: u32, const SECOND: u32>(
+pub fn reading_of<const FIRST: u32, const SECOND: u32>(
     cells: &PlainCells<FIRST, SECOND>,
     addr: u32,
 ) -> Reading

@@ -16,7 +16,7 @@ mod updates;
 
 pub use apply_command::apply;
 pub use explain_command::explain;
-pub use explanation::{covering_rules, reading};
+pub use explanation::{covering_rules, reading_of};
 pub use lookup_command::lookup;
 pub use migrate_command::migrate;
 pub use report_command::report;

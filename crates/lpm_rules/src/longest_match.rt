@@ -8,7 +8,7 @@ use crate::{Rule, Rules};
 impl<const FIRST: u32, const SECOND: u32> Rules<FIRST, SECOND> {
     /// The rule that answers an address: that of the longest prefix of the address that has a rule. It
     /// searches each length, up to the first find.
-    pub fn lookup_rule(&self, addr: u32) -> Option<Rule<FIRST, SECOND>>
+    pub fn longest_rule(&self, addr: u32) -> Option<Rule<FIRST, SECOND>>
         requires { addr < 2 ^ (FIRST + SECOND) }
         ensures { IsMatch FIRST SECOND self.now.rules addr result }
     {

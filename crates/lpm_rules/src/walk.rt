@@ -13,7 +13,7 @@ impl<const FIRST: u32, const SECOND: u32> Rules<FIRST, SECOND> {
     /// The rule that comes next after a prefix in the order of prefixes, whether the prefix has a
     /// rule or not; the first rule for `None`. It looks up one key for each length, and takes no
     /// memory.
-    pub fn next_rule(&self, after: Option<Prefix<FIRST, SECOND>>) -> Option<Rule<FIRST, SECOND>>
+    pub fn next_after(&self, after: Option<Prefix<FIRST, SECOND>>) -> Option<Rule<FIRST, SECOND>>
         ensures { IsNextRule self.now.rules after.entry result }
     {
         let _ = &self.lengths;

@@ -80,7 +80,7 @@ impl Owner {
             writer,
             bench,
         } = self;
-        match writer.start(&*table) {
+        match writer.begin_grace_period(&*table) {
             Ok(period) => Ok(GracePeriod::new(table, period, bench)),
             Err(not_started) => Err(NotStarted {
                 owner: Owner::new(table, not_started.writer, bench),
@@ -160,7 +160,7 @@ impl GracePeriod {
             period,
             bench,
         } = self;
-        match period.check(&*table) {
+        match period.try_end(&*table) {
             Ok(writer) => Ok(Owner::new(table, writer, bench)),
             Err(held) => Err(Held {
                 period: GracePeriod::new(table, held.period, bench),

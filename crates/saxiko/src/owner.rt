@@ -288,7 +288,7 @@ impl Owner {
     pub fn next_rule(&self, after: Option<Prefix<24, 8>>) -> Option<Rule<24, 8>>
         ensures { IsNextRule self.now.writer.table.rules after result }
     {
-        self.writer.next_rule(after)
+        self.writer.rule_after(after)
     }
 
     /// The rule of the last version that answers the address: that of the longest prefix of the address
@@ -296,7 +296,7 @@ impl Owner {
     pub fn lookup_rule(&self, addr: u32) -> Option<Rule<24, 8>>
         ensures { IsMatch 24 8 self.now.writer.table.rules addr result }
     {
-        self.writer.lookup_rule(addr)
+        self.writer.rule_for(addr)
     }
 
     /// The number of rules.
@@ -311,7 +311,7 @@ impl Owner {
     pub fn at_rest(&self)
         ensures { IsAtRest self.now.writer }
     {
-        self.writer.at_rest();
+        self.writer.table_rests();
     }
 
     /// The number of changes that made a version of the rule list, since the table was opened.
@@ -336,7 +336,7 @@ impl Owner {
         ensures value { result ≡ self.now.writer.config }
         ensures limits { IsConfig result }
     {
-        self.writer.config()
+        self.writer.limits()
     }
 
     /// How many groups are in use, in limbo and free.

@@ -73,7 +73,7 @@ impl Reader {
         ensures value { result ≡ self.now.worker }
         ensures inside { result < self.now.table.initial.workers }
     {
-        self.pass.worker()
+        self.pass.worker_number()
     }
 
     /// Does nothing: its contract says what the steps of a reader are, and what it has seen.
@@ -81,7 +81,7 @@ impl Reader {
     pub fn history(&self)
         ensures { IsHistory self.now }
     {
-        self.pass.history();
+        self.pass.history_is_sound();
     }
 
     /// Whether the reader is online: from a report that it is until one that it is offline.
@@ -182,7 +182,7 @@ impl Reader {
         ensures rest { drop result.count hops.new ≡ drop result.count hops.old }
         ensures online { self.new.online ≡ true }
     {
-        self.pass.lookup_bulk(&*self.table, addrs, default, hops)
+        self.pass.lookup_burst(&*self.table, addrs, default, hops)
     }
 }
 

@@ -142,7 +142,7 @@ impl Bench {
         ensures back { IsPutBack self.old pass self.new }
     {
         pass.leave(table);
-        let worker = pass.worker();
+        let worker = pass.worker_number();
         self.passes[worker] = Some(pass);
     }
 }

@@ -53,7 +53,7 @@ impl Pass {
     /// The addresses are looked up in fours, each by the loads of `lookup4`, and those that are left one by
     /// one.
     #[inline]
-    pub fn lookup_bulk(
+    pub fn lookup_burst(
         &mut self,
         table: &SharedTable<24, 8>,
         addrs: &[u32],

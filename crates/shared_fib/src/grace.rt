@@ -118,7 +118,7 @@ impl<const FIRST: u32, const SECOND: u32> Writer<FIRST, SECOND> {
     ///
     /// The error, which gives the writer back as it was, comes exactly where fewer tokens than groups are
     /// left.
-    pub fn start(
+    pub fn begin_grace_period(
         self,
         table: &SharedTable<FIRST, SECOND>,
     ) -> Result<GracePeriod<FIRST, SECOND>, NotStarted<FIRST, SECOND>>
@@ -161,7 +161,7 @@ impl<const FIRST: u32, const SECOND: u32> GracePeriod<FIRST, SECOND> {
     /// Where all let the token pass the grace period is over, and the writer is back: each worker's counter
     /// was loaded after the token was there, and no group that was queued before is held at any later
     /// check. The error gives the grace period back, and names the worker that holds the token.
-    pub fn check(
+    pub fn try_end(
         self,
         table: &SharedTable<FIRST, SECOND>,
     ) -> Result<Writer<FIRST, SECOND>, Held<FIRST, SECOND>>

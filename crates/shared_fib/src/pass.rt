@@ -75,7 +75,7 @@ impl Pass {
     }
 
     /// The number of its worker.
-    pub fn worker(&self) -> usize
+    pub fn worker_number(&self) -> usize
         ensures value { result ≡ self.now.worker }
         ensures inside { result < self.now.table.initial.workers }
     {
@@ -84,7 +84,7 @@ impl Pass {
 
     /// Does nothing: its contract says what the steps of a pass are, and what it has seen.
     #[inline]
-    pub fn history(&self)
+    pub fn history_is_sound(&self)
         ensures { IsHistory self.now }
     {
         self.seat.view_is_sound();

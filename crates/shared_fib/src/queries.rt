@@ -24,19 +24,19 @@ impl<const FIRST: u32, const SECOND: u32> Writer<FIRST, SECOND> {
 
     /// The rule that comes next after a prefix in the order of prefixes, whether the prefix has a rule or
     /// not; the first rule for `None`. It searches the rule list for each length.
-    pub fn next_rule(&self, after: Option<Prefix<FIRST, SECOND>>) -> Option<Rule<FIRST, SECOND>>
+    pub fn rule_after(&self, after: Option<Prefix<FIRST, SECOND>>) -> Option<Rule<FIRST, SECOND>>
         ensures { IsNextRule self.now.table.rules after.entry result }
     {
-        self.control.rules.next_rule(after)
+        self.control.rules.next_after(after)
     }
 
     /// The rule that answers the address: that of the longest prefix of the address that has a rule. It
     /// searches the rule list for each length, up to the first find.
-    pub fn lookup_rule(&self, addr: u32) -> Option<Rule<FIRST, SECOND>>
+    pub fn rule_for(&self, addr: u32) -> Option<Rule<FIRST, SECOND>>
         requires { addr < 2 ^ (FIRST + SECOND) }
         ensures { IsMatch FIRST SECOND self.now.table.rules addr result }
     {
-        self.control.rules.lookup_rule(addr)
+        self.control.rules.longest_rule(addr)
     }
 
     /// The number of rules.
@@ -49,7 +49,7 @@ impl<const FIRST: u32, const SECOND: u32> Writer<FIRST, SECOND> {
     /// Does nothing: its contract says that the table is at rest between two commands, and that the steps
     /// which led there are lawful.
     #[inline]
-    pub fn at_rest(&self)
+    pub fn table_rests(&self)
         ensures { IsAtRest self.now }
     {
         self.seat.steps_are_lawful();
@@ -73,7 +73,7 @@ impl<const FIRST: u32, const SECOND: u32> Writer<FIRST, SECOND> {
     }
 
     /// The limits that the table was opened with.
-    pub fn config(&self) -> Config
+    pub fn limits(&self) -> Config
         ensures value { result ≡ self.now.config }
         ensures limits { IsConfig result }
     {

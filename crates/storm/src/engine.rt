@@ -111,7 +111,7 @@ fn begin<const FIRST: u32, const SECOND: u32>(
     ensures room { IfOk result (λ r. length plan.now.orders.now ≤ vec_capacity r.outcomes) }
 {
     table.has_widths();
-    writer.at_rest();
+    writer.table_rests();
     let outcomes = Vec::with_capacity(alloc, plan.orders.len())?;
     Ok(Recorder { writer, outcomes })
 }

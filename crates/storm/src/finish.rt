@@ -35,7 +35,7 @@ fn meet_worker<const FIRST: u32, const SECOND: u32>(
     let _ = addrs;
     let _ = rounds;
     worker.pass.meet(table, writer);
-    worker.pass.history();
+    worker.pass.history_is_sound();
 }
 
 /// Each worker's pass meets the writer.
@@ -78,7 +78,7 @@ pub fn settle<R: Wait, const FIRST: u32, const SECOND: u32>(
     writer.synchronize(rt, table)?;
     let waiting = writer.counts().limbo;
     let _ = writer.reclaim(table, waiting);
-    writer.at_rest();
+    writer.table_rests();
     Ok(())
 }
 

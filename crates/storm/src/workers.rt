@@ -62,7 +62,7 @@ fn look_once<G: Gate, const FIRST: u32, const SECOND: u32>(
         gate.at(lookups.number, from + i);
         let addr = lookups.addrs[i];
         let answer = worker.pass.lookup(lookups.table, addr);
-        worker.pass.history();
+        worker.pass.history_is_sound();
         worker.answers.push_reserved((addr, answer));
     }
     true

@@ -89,7 +89,7 @@ fn record<const FIRST: u32, const SECOND: u32>(
     ensures capacity { vec_capacity recorder.old.outcomes ≤ vec_capacity recorder.new.outcomes }
 {
     let outcome = execute(updates.table, &mut recorder.writer, &updates.orders[index]);
-    recorder.writer.at_rest();
+    recorder.writer.table_rests();
     note(&mut recorder.outcomes, &outcome);
     outcome
 }

@@ -116,7 +116,7 @@ fn register_each(rt: &impl Abort, table: &SmallTable, bench: &mut Bench)
     requires { IsBenchOf table.now bench.old }
 {
     let pass = bench.register(table, 0).expect(rt, "a pass");
-    assert_at(rt, "worker", pass.worker(), 0);
+    assert_at(rt, "worker", pass.worker_number(), 0);
     let refused = [
         bench.register(table, 0).err(),
         bench.register(table, 1).err(),

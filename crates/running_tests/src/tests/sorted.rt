@@ -54,7 +54,7 @@ fn play(rt: &impl Abort, table: &Ipv4Table, writer: &mut Ipv4Writer, pass: &mut 
     requires pass { (pass.old.table ≡ table.now) × (pass.old.online ≡ false) }
 {
     assert_at(rt, "opened", figures(table, writer), ((4, 0, 7), (1, 0, 1)));
-    assert_at(rt, "config", writer.config(), LIMITS);
+    assert_at(rt, "config", writer.limits(), LIMITS);
     let twice = rule_of::<24, 8>((0x0a01_0000, 16, 4)).expect(rt, "a rule");
     assert_at(rt, "twice", writer.get(&twice.prefix), Some(twice.hop));
     pass.online(table);

@@ -20,6 +20,6 @@ loop-number-preserved g c =
     record {
       met = one_more (HasMet c.args.writer.now) i c.args.desks.now desks d new within known.met
           (met c.args.writer.now old new _ meeting.step.2 (meeting.offline desk.offline) refl
-          (meeting.all ∙ ap steps_of known.same) c.history.ensures c.at_rest.ensures);
+          (meeting.all ∙ ap steps_of known.same) c.history_is_sound.ensures c.table_rests.ensures);
       same = meeting.same ∙ known.same;
     }

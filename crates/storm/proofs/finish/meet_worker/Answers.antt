@@ -9,6 +9,6 @@ returns-clause-answered g c =
     let step = c.meet.ensures.step in
     let met = looked_up c.args.table.now c.args.addrs.now c.args.rounds (steps_of c.args.writer.now) step.0 step.1
     c.args.worker.now.pass c.meet.new.self c.args.worker.now.answers.items
-    step.2 (c.meet.ensures.own ∙ over.table) c.meet.ensures.all c.history.ensures (over.told.answers, over.told.versions)
+    step.2 (c.meet.ensures.own ∙ over.table) c.meet.ensures.all c.history_is_sound.ensures (over.told.answers, over.told.versions)
     (over.whole c.requires.done) in
     record { answers = met.0; looked = met.1 }

@@ -28,6 +28,6 @@ returns-clause-settles g c =
           limbo c.reclaim.ensures.frees;
       identity = c.reclaim.ensures.own ∙ own;
       config = c.reclaim.ensures.config ∙ ap (λ (w : WriterState). w.config) told.same;
-      rests = c.at_rest.ensures;
+      rests = c.table_rests.ensures;
       emptied = emptied (initial_state id) some passed.table c.reclaim.new.self.table c.reclaim.result queued all;
     }

@@ -14,7 +14,7 @@ loop-i-preserved g c =
     let addrs = c.args.lookups.now.addrs.now in
     let id = c.args.lookups.now.table.now in
     let more = told_more c.loop-i.worker.pass c.lookup-answer.new.self _ c.lookup-answer.result c.lookup-answer.ensures.answer
-    c.history.ensures (initial_state id) c.loop-i.worker.answers.items (ap initial_state (was.own ∙ c.requires.own)) (was.told.answers, was.told.versions) in
+    c.history_is_sound.ensures (initial_state id) c.loop-i.worker.answers.items (ap initial_state (was.own ∙ c.requires.own)) (was.told.answers, was.told.versions) in
     record {
       own = c.lookup-answer.ensures.own ∙ was.own;
       online = c.lookup-answer.ensures.online;

@@ -23,4 +23,4 @@ returns-clause-made g c =
     c.args.recorder.now.writer c.execute-outcome.new.writer (omega (arith, here, c.requires.index))
     (c.index-updates-index.is ∙ ap (λ (n : ℕ). get_or orders n order) (sym here))
     c.requires.made does c.execute-outcome.ensures.own c.execute-outcome.ensures.config
-    (subst IsForWriter (sym c.index-updates-index.is) (c.requires.orders c.args.index order c.requires.index)) c.at_rest.ensures)
+    (subst IsForWriter (sym c.index-updates-index.is) (c.requires.orders c.args.index order c.requires.index)) c.table_rests.ensures)

@@ -1,7 +1,7 @@
 use Rattle.std.proofs.Common.{arith, rules, ◌≡◌, ◌∙◌}
 use Rattle.std.specs.Prelude.{min, max}
 use Rattle.shared_fib.proofs.Lookups.{burst_after, rest_after}
-use Rattle.shared_fib.proofs.pass.Pass.lookup_bulk.Goals as goal
+use Rattle.shared_fib.proofs.pass.Pass.lookup_burst.Goals as goal
 
 pub loop-burst-preserved : goal.loop-burst-preserved
 loop-burst-preserved c =

@@ -1,7 +1,7 @@
 use Rattle.std.proofs.Common.{ℕ, ◌≡◌, ◌≤◌, ◌-◌, List, Option, map, length, take, drop, true}
 use Rattle.shared_fib.specs.RunningTable.{hop_or}
 use Rattle.shared_fib.specs.Bursts.{LooksUpBurst}
-use Rattle.shared_fib.proofs.pass.Pass.lookup_bulk.Given as goal
+use Rattle.shared_fib.proofs.pass.Pass.lookup_burst.Given as goal
 
 -- the addresses up to here are answered, and what stands behind their hops is as it was
 abbrev pub invariant-loop-burst : goal.invariant-loop-burst

@@ -1,7 +1,7 @@
 use Rattle.std.proofs.Common.{subst}
 use Rattle.shared_fib.specs.RunningTable.{IsAtRest}
 use Rattle.shared_fib.proofs.Seated.{at_rest}
-use Rattle.shared_fib.proofs.writer.Writer.at_rest.Goals as goal
+use Rattle.shared_fib.proofs.writer.Writer.table_rests.Goals as goal
 
 pub returns : goal.returns
 returns g c =

@@ -1,7 +1,7 @@
 use Rattle.std.proofs.Common.{ℕ, ◌≡◌, ◌+◌, ◌<◌, ◌≤◌, None}
 use Rattle.std.specs.FinMap.{get}
 use Rattle.lpm_bits.specs.Network.{prefix_of}
-use Rattle.lpm_rules.proofs.Rules.lookup_rule.Given as goal
+use Rattle.lpm_rules.proofs.Rules.longest_rule.Given as goal
 
 -- no prefix of the address that was tried has a rule
 abbrev pub invariant-loop-host : goal.invariant-loop-host

@@ -1,5 +1,5 @@
 use Rattle.lpm_rules.proofs.NextRules.{IsNextBelow}
-use Rattle.lpm_rules.proofs.Rules.next_rule.Given as goal
+use Rattle.lpm_rules.proofs.Rules.next_after.Given as goal
 
 -- the next rule by those of the lengths before this one
 abbrev pub invariant-loop-len : goal.invariant-loop-len

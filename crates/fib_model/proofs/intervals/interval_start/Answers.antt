@@ -1,6 +1,6 @@
 use Rattle.std.proofs.Common.{arith, refl}
 use Rattle.fib_model.proofs.Unique.{found_more}
-use Rattle.fib_model.proofs.intervals.running.Goals as goal
+use Rattle.fib_model.proofs.intervals.interval_start.Goals as goal
 
 pub loop-place-preserved : goal.loop-place-preserved
 loop-place-preserved c =

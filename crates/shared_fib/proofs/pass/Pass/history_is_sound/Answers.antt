@@ -1,6 +1,6 @@
 use Rattle.std.proofs.Common.{subst}
 use Rattle.shared_fib.specs.Passes.{IsHistory}
-use Rattle.shared_fib.proofs.pass.Pass.history.Goals as goal
+use Rattle.shared_fib.proofs.pass.Pass.history_is_sound.Goals as goal
 
 pub returns : goal.returns
 returns c =
