@@ -105,11 +105,11 @@ pub fn add_rule<const FIRST: u32, const SECOND: u32, M: Memory>(
             let len = prefix.len();
             let rule = RuleChange::Put(u64::from(bits), u64::from(len), u64::from(number));
             change::<FIRST, SECOND, M>(control, memory, update, &rule);
-            return Ok(put);
+            Ok(put)
         }
         Err(oldest) => {
             let _ = control.rules.remove(prefix);
-            return Err(Refusal::NoGroups { oldest });
+            Err(Refusal::NoGroups { oldest })
         }
     }
 }
@@ -157,9 +157,9 @@ pub fn delete_rule<const FIRST: u32, const SECOND: u32, M: Memory>(
             let update = Update::delete(prefix, cover, last);
             let rule = RuleChange::TakeOut(u64::from(bits), u64::from(prefix.len()));
             change::<FIRST, SECOND, M>(control, memory, update, &rule);
-            return Ok(hop);
+            Ok(hop)
         }
-        Err(_) => return Err(Refusal::NoSuchRule),
+        Err(_) => Err(Refusal::NoSuchRule),
     }
 }
 

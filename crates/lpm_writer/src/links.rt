@@ -52,15 +52,9 @@ pub(crate) fn group_for<const FIRST: u32, const SECOND: u32, M: Memory>(
     ensures queued { IsQueued pool.new.groups pool.new.queue }
 {
     let bits = prefix.bits();
-    if prefix.len() <= FIRST {
-        return Ok(None);
-    }
-    if linked {
+    if prefix.len() <= FIRST || linked {
         return Ok(None);
     }
     let block = Shape::<FIRST, SECOND>::first_index(bits);
-    match take(pool, memory, block) {
-        Ok(group) => return Ok(Some(group)),
-        Err(oldest) => return Err(oldest),
-    }
+    Ok(Some(take(pool, memory, block)?))
 }
