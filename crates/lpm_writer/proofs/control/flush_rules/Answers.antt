@@ -1,17 +1,18 @@
 use Rattle.std.proofs.Common.{lit<, ◌≡◌, refl, sym, ap, ◌∙◌, List, Bool, false}
-use Rattle.std.specs.Prelude.{IsTrue}
+use Rattle.std.specs.Prelude.{IsTrue, Ok}
 use Rattle.std.specs.FinMap.{empty}
 use Rattle.lpm_rules.specs.RuleMap.{RuleList, network_cmp}
+use Rattle.fib_model.specs.Outcomes.{Flushes}
 use Rattle.fib_model.specs.State.{HasTokens}
 use Rattle.lpm_trace.specs.declared.step.RuleChange.TheVariants.{Clear}
 use Rattle.lpm_trace.specs.declared.step.WriterStep.{WriterStep}
 use Rattle.lpm_trace.specs.States.{InitialState, state_after}
 use Rattle.lpm_writer.specs.Traced.{by_writer}
 use Rattle.lpm_writer.specs.Rest.{IsDue, state_of}
-use Rattle.lpm_writer.specs.Commands.{Rests}
+use Rattle.lpm_writer.specs.Commands.{Commands, Rests}
 use Rattle.lpm_writer.proofs.Rests.{due_at_rest, has_tokens, shrinks}
 use Rattle.lpm_writer.proofs.control.flush_rules.Given.{Over}
-use Rattle.lpm_writer.proofs.control.flush_rules.Goals.{After-flush-update}
+use Rattle.lpm_writer.proofs.control.flush_rules.Goals.{After-flush-update, After-change}
 use Rattle.lpm_writer.proofs.control.flush_rules.Goals as goal
 
 -- the update is due, and tokens and versions are left
@@ -28,13 +29,19 @@ due g c initial steps did rest =
 pub change-requires : goal.change-requires
 change-requires g c = let r = c.requires.rests in (lit< tt, (r.0, r.1, r.2, (due g (goal.at.change-requires g c).After-flush-update r.0 r.1 r.2 r.3).0))
 
-pub returns-clause-flushes : goal.returns-clause-flushes
-returns-clause-flushes g c = λ initial steps did rest.
+-- what the contract says of the rules that were taken out
+abbrev Flushed : (g : Over) → After-change g → Type 0
+Flushed g c = Commands g.M.Memory.did c.args.control.now c.args.memory.now c.change.new.control c.change.new.memory
+    (λ s x z. Flushes (by_writer g.M.Memory.does s) g.row.FIRST g.row.SECOND c.args.control.now.config x (Ok c.clear-count.result) z)
+
+flushed : (g : Over) (c : After-change g) → Flushed g c
+flushed g c = λ initial steps did rest.
     let l = c.args.control.now in
     let new = c.change.new.control in
     let then = c.change.ensures in
     let count = c.clear-count.ensures in
-    let ready = due g (goal.at.returns-clause-flushes g c).After-flush-update initial steps did rest in
+    let at : After-flush-update g = search in
+    let ready = due g at initial steps did rest in
     let made = then.changed initial steps did ready.0 in
     let gone = ap (λ (y : RuleList). y.rules) (then.rules ∙ count.empty) in (
       made.0,
@@ -50,3 +57,11 @@ returns-clause-flushes g c = λ initial steps did rest.
   where
     not_none : (b : Bool) → b ≡ false → IsTrue b → ⊥
     not_none b p q = cc
+
+-- the return's goal has the first name where the tests before it return, and the second where they are an `if` with
+-- `else`
+pub returns-clause-flushes : (g : Over) (c : After-change g) → Flushed g c
+returns-clause-flushes = flushed
+
+pub returns-else-is_exhausted-clause-flushes : (g : Over) (c : After-change g) → Flushed g c
+returns-else-is_exhausted-clause-flushes = flushed
