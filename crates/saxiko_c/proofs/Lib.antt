@@ -1,6 +1,5 @@
 pub mod HandleSteps
 pub mod Forms
 pub mod HandleSends
-pub mod Fills
 pub mod Pieces
 pub mod Options

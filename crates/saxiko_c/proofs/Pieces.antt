@@ -1,14 +1,14 @@
--- Lookups of many addresses, one piece after another.
-use Rattle.std.proofs.Common.{ℕ, ◌≡◌, false, List, Option, None, Some, set, get_or, unwrap_or, ap, sym, ◌∙◌, subst, ◌-◌, ◌^◌, ◌≤◌, [], ◌++◌, length, map, take, refl}
-use Rattle.std.specs.Prelude.{slice_get, min, max}
+-- Lookups of many addresses.
+use Rattle.std.proofs.Common.{ℕ, ◌≡◌, false, List, Option, None, Some, set, get_or, unwrap_or, ap, sym, ◌∙◌, subst, ◌-◌, ◌≤◌, length, length-drop, map, take, drop, arith}
+use Rattle.std.specs.Prelude.{slice_get, min}
+use Rattle.std.specs.List.{AllZip}
+use Rattle.std.proofs.Math.Nat.{min-eq_left}
 use Rattle.std.proofs.lemmas.List.{set-set, set-get_or, take_all}
 use Rattle.std.proofs.lemmas.Option.{unwrap_or-slice_get}
-use Rattle.shared_fib.specs.Passes.{PassState, LooksUpAll}
-use Rattle.saxiko_c.specs.RunningTable.{OwnerState, FindsEach}
-use Rattle.shared_fib.specs.Bursts.{LooksUpBurst, Piece}
+use Rattle.shared_fib.specs.Passes.{PassState}
+use Rattle.saxiko_c.specs.RunningTable.{OwnerState}
+use Rattle.shared_fib.specs.Bursts.{LooksUpBurst}
 use Rattle.shared_fib.specs.RunningTable.{hop_or}
-use Rattle.shared_fib.proofs.Lookups.{burst_after}
-use Rattle.saxiko_c.specs.declared.records.SaxikoSpan.{SaxikoSpan}
 
 -- A reader that is handed out and taken back at once.
 
@@ -35,26 +35,19 @@ as_before o p q k reader given left same worker offline was handed pw ps back le
     let waits = qs ∙ ps in
     λ i. record { writer = writer i; waits = waits i; bench = bench i }
 
--- no address was looked up
-pub none_found : (default : ℕ) (p : PassState) → (span : SaxikoSpan) × FindsEach default [] [] span p p
-none_found default p = (
-  record { lo = 2 ^ 64 - 1; hi = 0 },
-  ([], record { pieces = []; addrs_are = refl; hops_are = refl; lo_is = refl; hi_is = refl; steps = refl }, refl),
-)
+-- as many addresses are looked up as there are, where there is as much room
+pub as_many : (count addrs room : ℕ) → addrs ≡ room → count ≡ min addrs room → count ≡ addrs
+as_many count addrs room same is = is ∙ min-eq_left (omega (arith, same))
 
--- the next piece is looked up, and its answers are stored
-pub one_more : (default : ℕ) (addrs hops new : List ℕ) (at next : ℕ) (p q r : PassState)
-    → ((span : SaxikoSpan) × FindsEach default (take at addrs) (take at hops) span p q)
-    → ((l : Piece) × LooksUpAll l.addrs l.hops l.lo l.hi q r
-    × (take next addrs ≡ take at addrs ++ l.addrs) × (take next new ≡ take at hops ++ map (hop_or default) l.hops))
-    → (span : SaxikoSpan) × FindsEach default (take next addrs) (take next new) span p r
-one_more default addrs hops new at next p q r so w =
-    let lo : ℕ = min so.0.lo w.0.lo in
-    let hi : ℕ = max so.0.hi w.0.hi in (
-      record { lo = lo; hi = hi },
-      burst_after default addrs hops new at next so.0.lo so.0.hi w.0.lo w.0.hi lo hi p q r so.1
-          (w.0.addrs, w.0.hops, w.1, w.2, w.3) refl refl,
-    )
+-- each address is answered
+pub all_answered : (R : ℕ → ℕ → Type 0) (addrs before after : List ℕ) (count : ℕ) → length addrs ≡ length before
+    → count ≡ length addrs → AllZip R (take count addrs) (take count after) → drop count after ≡ drop count before
+    → AllZip R addrs after
+all_answered R addrs before after count same all answers rest =
+    let none : length after - count ≡ length before - count = sym (length-drop count after) ∙ ap length rest ∙ length-drop count before in
+    let few : length after ≤ count = omega (arith, none, same, all) in
+    subst (λ xs. AllZip R xs after) (take_all count addrs (omega (arith, all)))
+    (subst (AllZip R (take count addrs)) (take_all count after few) answers)
 
 -- all addresses were looked up
 pub all_found : (default : ℕ) (addrs hops : List ℕ) (n lo hi : ℕ) (p q : PassState)

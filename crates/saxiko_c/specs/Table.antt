@@ -1,6 +1,7 @@
 -- Meaning: the calls of a table of one thread, by the status that they answer (DPDK Programmer's Guide,
 -- "LPM Library").
-use Rattle.std.specs.Prelude.{ℕ, ℤ, ⊤, ◌≡◌, ◌+◌, ◌≤◌, ◌<◌, ◌⊎◌, ◌↔◌, ◌≢◌, Option, Some, None, Result, Ok, Err, slice_index, List, length}
+use Rattle.std.specs.Prelude.{ℕ, ℤ, ⊤, ◌≡◌, ◌+◌, ◌≤◌, ◌<◌, ◌⊎◌, ◌↔◌, ◌≢◌, Option, Some, None, Result, Ok, Err, List, length}
+use Rattle.std.specs.List.{AllZip}
 use Rattle.std.specs.FinMap.{get, len}
 use Rattle.lpm_bits.specs.Network.{prefix_of, Network}
 use Rattle.lpm_rules.specs.RuleMap.{RuleMap, IsNextRule}
@@ -86,17 +87,12 @@ Gets addr depth before after f status =
     ((32 < depth) × (status ≡ invalid) × (after ≡ before))
     ⊎ ((depth ≤ 32) × Tells (get f.table.rules (prefix_of 32 depth addr)) status before after)
 
--- each address's next hop, or the default
-abbrev pub AnswersAll : RuleMap → ℕ → List ℕ → List ℕ → Type 0
-AnswersAll R default addrs hops =
-    (i : ℕ) → i < length addrs → IsHopOrDefault 32 R default (slice_index addrs i) (slice_index hops i)
-
--- as many next hops as addresses are stored, or it is EINVAL where there isn't as much room
+-- each address's next hop is stored, or the default, or it is EINVAL where there isn't as much room
 abbrev pub FindsAll : ℕ → List ℕ → List ℕ → List ℕ → FibState → ℤ → Type 0
 FindsAll default addrs before after f status =
     ((length addrs ≢ length before) × (status ≡ invalid) × (after ≡ before))
-    ⊎ ((length addrs ≡ length before) × (status ≡ success) × (length after ≡ length addrs)
-    × AnswersAll f.table.rules default addrs after)
+    ⊎ ((length addrs ≡ length before) × (status ≡ success)
+    × AllZip (IsHopOrDefault 32 f.table.rules default) addrs after)
 
 -- rules, versions, token and groups are counted
 pub record IsCounted (f : FibState) (c : SaxikoCounts) : Type 0 where

@@ -2,7 +2,7 @@
 
 ghost use Rattle.std.specs.Prelude.{◌≡◌, ◌+◌, MatchResult};
 ghost use Rattle.lpm_limits.specs.Limits.{IsConfig};
-ghost use Rattle.fib.specs.Fib.{initial_fib, IsHopOrDefault};
+ghost use Rattle.fib.specs.Fib.{initial_fib};
 ghost use Rattle.saxiko_c.specs.Status.{status_of};
 ghost use Rattle.saxiko_c.specs.Table.{AddsRule, Counts, DeletesRule, Finds, FindsAll, FlushesRules, FreesGroups, Gets, IsCounted, IsUnopened, Stores};
 
@@ -107,27 +107,13 @@ pub(crate) fn get_in_table(fib: &Fib<24, 8>, addr: u32, depth: u8, hop: &mut u32
 }
 
 #[inline]
-fn hop_or(fib: &Fib<24, 8>, addr: u32, default: u32) -> u32
-    ensures { IsHopOrDefault 32 fib.now.table.rules default addr result }
-{
-    match fib.lookup(addr) {
-        Some(hop) => hop.number(),
-        None => default,
-    }
-}
-
-#[inline]
 pub(crate) fn lookup_all(fib: &Fib<24, 8>, addrs: &[u32], hops: &mut [u32], default: u32) -> i32
     ensures { FindsAll default addrs.now hops.old hops.new fib.now result }
 {
     if addrs.len() != hops.len() {
         return EINVAL;
     }
-    let mut i = 0;
-    while i < hops.len() {
-        hops[i] = hop_or(fib, addrs[i], default);
-        i += 1;
-    }
+    let _ = fib.lookup_bulk(addrs, default, hops);
     0
 }
 

@@ -1,13 +1,12 @@
-use Rattle.std.proofs.Common.{arith, ◌∙◌}
-use Rattle.std.specs.Prelude.{slice_index}
-use Rattle.std.proofs.lemmas.List.{length-set}
+use Rattle.std.proofs.Common.{◌≡◌, inr, length, refl}
 use Rattle.fib.specs.Fib.{IsHopOrDefault}
-use Rattle.saxiko_c.proofs.Fills.{filled}
+use Rattle.saxiko_c.proofs.Pieces.{all_answered, as_many}
 use Rattle.saxiko_c.proofs.table.lookup_all.Goals as goal
 
-pub loop-i-preserved : goal.loop-i-preserved
-loop-i-preserved c = record {
-  bound = let low = c.loop-i-test.true in rw (length-set c.loop-i.hops c.loop-i.i c.hop_or.result) (omega (arith, low));
-  sizes = length-set c.loop-i.hops c.loop-i.i c.hop_or.result ∙ c.loop-i.invariant.sizes;
-  told = filled (λ k h. IsHopOrDefault 32 c.args.fib.now.table.rules c.args.default (slice_index c.args.addrs.now k) h) c.loop-i.hops c.loop-i.i c.hop_or.result c.loop-i-test.true c.loop-i.invariant.told c.hop_or.ensures;
-}
+pub returns : goal.returns
+returns c =
+    let addrs = c.args.addrs.now in
+    let sizes : length addrs ≡ length c.args.hops.now = search in
+    let bulk = c.lookup_bulk in
+    let all = as_many bulk.result (length addrs) (length c.args.hops.now) sizes bulk.ensures.count in
+    inr (sizes, refl, all_answered (IsHopOrDefault 32 c.args.fib.now.table.rules c.args.default) addrs c.args.hops.now bulk.new.hops bulk.result sizes all bulk.ensures.answers bulk.ensures.rest)
