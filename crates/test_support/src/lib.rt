@@ -2,19 +2,21 @@
 //! stand in each crate of tests, and these hand out what they compare.
 #![tactic(auto)]
 
-mod listed;
+mod edits;
 mod many;
 mod meeting;
 pub mod plans;
 mod routes;
+mod rule_lists;
 
-pub use listed::{
-    Drawing, Plain, are_in_order, draw, drawn_rules, hop_number, other_hop, probes, rule_of,
-    rules_of,
-};
+pub use edits::Edit;
 pub use many::{MANY, MANY_LIMITS, block, many_plain, many_rules, second_half};
 pub use meeting::Meeting;
 pub use routes::{
     AMPLE, Change, DEEP, HOPS, LIMITS, ROUTES, Row, SHORT, STEPS, Step, THREE, USUAL, bad_limits,
     limits, rooms,
+};
+pub use rule_lists::{
+    Drawing, Plain, are_in_order, draw, drawn_rules, hop_number, other_hop, prefix_of, probes,
+    rule_of, rules_of,
 };

@@ -1,6 +1,6 @@
 //! 300,000 rules of blocks that follow each other, of which one in ten is the rule of half a block.
 
-use super::listed::{Plain, rule_of};
+use super::rule_lists::{Plain, rule_of};
 use lpm_limits::Config;
 use lpm_rules::Rule;
 use std::alloc::Global;

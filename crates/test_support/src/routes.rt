@@ -1,6 +1,6 @@
 //! Worked lists of rules, and limits for them.
 
-use super::listed::Plain;
+use super::rule_lists::Plain;
 use lpm_limits::Config;
 use lpm_rules::Put;
 

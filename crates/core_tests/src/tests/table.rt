@@ -14,7 +14,7 @@ use std::alloc::{AllocError, Global};
 use std::net::Ipv4Addr;
 use std::process::Abort;
 use std::test::Fail;
-use test_support::{Row, USUAL, draw, hop_number, limits, other_hop};
+use test_support::{Row, USUAL, draw, hop_number, limits, other_hop, prefix_of};
 
 pub(crate) fn prefix<const FIRST: u32, const SECOND: u32>(
     rt: &impl Abort,
@@ -23,8 +23,7 @@ pub(crate) fn prefix<const FIRST: u32, const SECOND: u32>(
 ) -> Prefix<FIRST, SECOND>
     requires { IsShape FIRST SECOND }
 {
-    assert!(rt; Shape::<FIRST, SECOND>::is_addr(bits));
-    Prefix::new(bits, len).expect(rt, "a length")
+    prefix_of(bits, len).expect(rt, "a prefix")
 }
 
 pub(crate) fn hop(rt: &impl Abort, number: u32) -> Hop {

@@ -5,11 +5,11 @@ ghost use Rattle.std.specs.Prelude.{◌^◌, ◌<◌, ◌≤◌, All, length};
 use super::asserts::assert_at;
 use audit::{Past, wrong};
 use lpm_bits::{Hop, Prefix};
-use lpm_rules::{Answer, Change, Rule};
+use lpm_rules::{Answer, Change};
 use std::alloc::Global;
 use std::process::Abort;
 use std::thread::Threads;
-use test_support::rule_of;
+use test_support::{Edit, draw};
 
 type History = Vec<Change<24, 8>>;
 
@@ -78,27 +78,8 @@ fn count_from(
         .expect(rt, "memory")
 }
 
-// A change as plain numbers: the bits, the length and the next hop of a rule.
-#[derive(Clone, Copy)]
-enum Edit {
-    Add(u32, u32, u32),
-    Delete(u32, u32),
-    Flush,
-    Reclaim,
-    Synchronize,
-}
-
 fn changed(rt: &impl Abort, edit: Edit) -> Change<24, 8> {
-    match edit {
-        Edit::Add(bits, len, number) => {
-            let Rule { prefix, hop } = rule_of((bits, len, number)).expect(rt, "a rule");
-            Change::Add(prefix, hop)
-        }
-        Edit::Delete(bits, len) => Change::Delete(Prefix::new(bits, len).expect(rt, "a length")),
-        Edit::Flush => Change::Flush,
-        Edit::Reclaim => Change::Reclaim(1),
-        Edit::Synchronize => Change::Synchronize,
-    }
+    edit.change().expect(rt, "a change")
 }
 
 fn history_of(rt: &impl Abort, alloc: Global, edits: &[Edit]) -> History {
@@ -152,7 +133,7 @@ static COUNTED: [Counted; 7] = [
     (
         &[
             Edit::Add(0, 0, 7),
-            Edit::Reclaim,
+            Edit::Reclaim(1),
             Edit::Synchronize,
             Edit::Add(ADDR, 32, 8),
         ],
@@ -184,25 +165,22 @@ fn counts_of_worked_histories(rt: HostRuntime) {
     }
 }
 
-// A number below the bound, and the next state of the draws.
-fn draw(state: &mut u64, bound: u32) -> u32 {
-    *state = state
-        .wrapping_mul(6_364_136_223_846_793_005)
-        .wrapping_add(1_442_695_040_888_963_407);
-    ((*state >> 33) % (u64::from(bound).max(1))) as u32
+// A drawn number below the bound.
+fn below(seed: &mut u32, bound: u32) -> u32 {
+    draw(seed) % bound.max(1)
 }
 
 // A change of one of a few prefixes, which lie in one another; a flush is rare.
-fn draw_change(rt: &impl Abort, state: &mut u64) -> Change<24, 8> {
+fn draw_change(rt: &impl Abort, seed: &mut u32) -> Change<24, 8> {
     let lengths = [0, 8, 16, 24, 25, 32];
-    let len = lengths[draw(state, 6) as usize % 6];
-    let bits = 0x0a01_0100 | draw(state, 2).wrapping_mul(0x81);
-    let edit = match draw(state, 12) {
+    let len = lengths[below(seed, 6) as usize % 6];
+    let bits = 0x0a01_0100 | below(seed, 2).wrapping_mul(0x81);
+    let edit = match below(seed, 12) {
         0 => Edit::Flush,
         1 => Edit::Synchronize,
-        2 => Edit::Reclaim,
+        2 => Edit::Reclaim(1),
         3 | 4 | 5 | 6 => Edit::Delete(bits, len),
-        _ => Edit::Add(bits, len, draw(state, 3).saturating_add(1)),
+        _ => Edit::Add(bits, len, below(seed, 3).saturating_add(1)),
     };
     changed(rt, edit)
 }
@@ -268,24 +246,24 @@ fn count_slowly(
     count
 }
 
-fn draw_history(rt: &impl Abort, alloc: Global, state: &mut u64) -> History {
+fn draw_history(rt: &impl Abort, alloc: Global, seed: &mut u32) -> History {
     let mut history = Vec::new(alloc);
     for _ in 0..60 {
-        history.push(draw_change(rt, state)).expect(rt, "memory");
+        history.push(draw_change(rt, seed)).expect(rt, "memory");
     }
     history
 }
 
 // Answers with each `lo`, and spans of up to three versions, which may end before they begin.
-fn draw_answers(rt: &impl Abort, alloc: Global, state: &mut u64) -> Answers {
+fn draw_answers(rt: &impl Abort, alloc: Global, seed: &mut u32) -> Answers {
     let mut answers = Vec::new(alloc);
     for i in 0..400_u64 {
         let lo = i % 63;
         let hi = lo
-            .saturating_add(u64::from(draw(state, 5)))
+            .saturating_add(u64::from(below(seed, 5)))
             .saturating_sub(1);
-        let addr = 0x0a01_0100 | draw(state, 2).wrapping_mul(0x81);
-        let answer = answer(rt, draw(state, 4), lo, hi);
+        let addr = 0x0a01_0100 | below(seed, 2).wrapping_mul(0x81);
+        let answer = answer(rt, below(seed, 4), lo, hi);
         answers.push((addr, answer)).expect(rt, "memory");
     }
     answers
@@ -293,10 +271,10 @@ fn draw_answers(rt: &impl Abort, alloc: Global, state: &mut u64) -> Answers {
 
 #[test]
 fn counts_as_a_slow_program(rt: HostRuntime) {
-    let mut state = 1;
+    let mut seed = 1;
     for _ in 0..3 {
-        let history = draw_history(&rt, rt.alloc(), &mut state);
-        let answers = draw_answers(&rt, rt.alloc(), &mut state);
+        let history = draw_history(&rt, rt.alloc(), &mut seed);
+        let answers = draw_answers(&rt, rt.alloc(), &mut seed);
         let slow = count_slowly(&rt, rt.alloc(), &history, &answers);
         let found = count(&rt, rt.alloc(), &history, &answers);
         assert_at(&rt, "wrong", (found, 0 < slow && slow < 400), (slow, true));

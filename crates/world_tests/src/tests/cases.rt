@@ -5,7 +5,7 @@ use super::asserts::{
     ADDED, Answer, Looked, Numbered, WORKER, WRITER, assert_at, assert_step, assert_steps,
     assert_trace,
 };
-use super::plan::{Edit, ONE_GROUP, TWO_GROUPS, played};
+use super::plan::{ONE_GROUP, TWO_GROUPS, played};
 use defer_queue::Reclaimed;
 use interleave::Trace;
 use lpm_limits::{Busy, Config, Refusal};
@@ -13,6 +13,7 @@ use lpm_trace::{Actor, Deed, Kind};
 use std::alloc::Global;
 use std::process::Abort;
 use std::test::Fail;
+use test_support::Edit;
 use world_reference::{InitialState, version_at};
 
 // The words of hop 7 with depth 4, of hop 5 with depth 8, of hop 6 with depth 8, and of group 0.

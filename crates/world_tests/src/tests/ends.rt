@@ -3,7 +3,7 @@
 use super::asserts::{
     ADDED, Answer, WORKER, WRITER, assert_at, assert_replies, assert_reply, assert_trace,
 };
-use super::plan::{Edit, ONE_GROUP, judged, planned, played, run};
+use super::plan::{ONE_GROUP, judged, planned, played, run};
 use defer_queue::Reclaimed;
 use interleave::{Reply, RunError, Trace};
 use lpm_limits::{Busy, Config, Refusal};
@@ -12,8 +12,8 @@ use lpm_trace::{Actor, Deed, Kind};
 use std::alloc::{AllocError, Global};
 use std::process::Abort;
 use std::test::Fail;
-use test_support::bad_limits;
 use test_support::plans::Plan;
+use test_support::{Edit, bad_limits};
 
 const SYNCHRONIZED: Answer = Answer::Synchronized;
 

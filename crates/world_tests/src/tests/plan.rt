@@ -6,7 +6,7 @@ ghost use Rattle.interleave.specs.Scripts.{IsSound};
 
 use super::asserts::assert_at;
 use interleave::{RunError, Trace, World, script_ok};
-use lpm_bits::{Hop, Prefix, Shape};
+use lpm_bits::{Hop, Prefix};
 use lpm_limits::Config;
 use lpm_rules::Change;
 use lpm_trace::{Actor, Deed};
@@ -14,8 +14,8 @@ use std::alloc::{AllocError, Global};
 use std::fmt::Debug;
 use std::process::Abort;
 use std::test::Fail;
-use test_support::USUAL;
 use test_support::plans::Plan;
+use test_support::{Edit, USUAL, prefix_of};
 use world_reference::{JudgeError, judge};
 
 // One group and one worker; all else by default.
@@ -61,35 +61,11 @@ pub(crate) fn run<const FIRST: u32, const SECOND: u32>(
 }
 
 pub(crate) fn prefix(rt: &impl Abort, bits: u32, len: u32) -> Prefix<4, 4> {
-    assert!(rt; Shape::<4, 4>::is_addr(bits));
-    Prefix::new(bits, len).expect(rt, "a length")
+    prefix_of(bits, len).expect(rt, "a prefix")
 }
 
 pub(crate) fn hop(rt: &impl Abort, number: u32) -> Hop {
     Hop::new(number).expect(rt, "a next hop")
-}
-
-// A change over 4 and 4 bits as plain numbers.
-#[derive(Clone, Copy)]
-pub(crate) enum Edit {
-    // The bits, the length and the next hop of a rule.
-    Add(u32, u32, u32),
-    Delete(u32, u32),
-    Flush,
-    Reclaim(usize),
-    Synchronize,
-}
-
-impl Edit {
-    fn change(self, rt: &impl Abort) -> Change<4, 4> {
-        match self {
-            Edit::Add(bits, len, number) => Change::Add(prefix(rt, bits, len), hop(rt, number)),
-            Edit::Delete(bits, len) => Change::Delete(prefix(rt, bits, len)),
-            Edit::Flush => Change::Flush,
-            Edit::Reclaim(max) => Change::Reclaim(max),
-            Edit::Synchronize => Change::Synchronize,
-        }
-    }
 }
 
 fn changes_of(
@@ -99,7 +75,7 @@ fn changes_of(
 ) -> Result<Vec<Change<4, 4>>, AllocError> {
     let mut changes = Vec::new(alloc);
     for edit in edits {
-        changes.push(edit.change(rt))?;
+        changes.push(edit.change().expect(rt, "a change"))?;
     }
     Ok(changes)
 }

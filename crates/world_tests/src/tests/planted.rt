@@ -1,6 +1,6 @@
 // Runs in which one thing is wrong, which the slow program refuses.
 
-use super::plan::{Edit, ONE_GROUP, TWO_GROUPS, assert_refused, hop, judged, planned, prefix};
+use super::plan::{ONE_GROUP, TWO_GROUPS, assert_refused, hop, judged, planned, prefix};
 use interleave::Trace;
 use lpm_limits::Config;
 use lpm_rules::Change;
@@ -8,6 +8,7 @@ use lpm_trace::{Actor, Deed, Kind, Step};
 use std::alloc::Global;
 use std::process::Abort;
 use std::test::Fail;
+use test_support::Edit;
 use test_support::plans::Plan;
 use world_reference::JudgeError;
 

@@ -1,9 +1,7 @@
 // Runs that follow their schedules and break one law of traces, which the slow program refuses by that law.
 
 use super::asserts::assert_at;
-use super::plan::{
-    Edit, ONE_GROUP, TWO_GROUPS, assert_refused, hop, judged, planned, planned_for, run,
-};
+use super::plan::{ONE_GROUP, TWO_GROUPS, assert_refused, hop, judged, planned, planned_for, run};
 use super::planted::exchange;
 use interleave::Seen;
 use lpm_limits::Config;
@@ -11,6 +9,7 @@ use lpm_trace::{Actor, Deed, Kind, Step};
 use std::alloc::Global;
 use std::process::Abort;
 use std::test::Fail;
+use test_support::Edit;
 use test_support::plans::Plan;
 use world_reference::{JudgeError, judge};
 

@@ -2,7 +2,7 @@ use Rattle.std.proofs.Common.{arith, ◌≡◌, ◌<◌, ◌≤◌, inl, inr, ap
 use Rattle.std.proofs.lemmas.Bool.{cases_lt}
 use Rattle.lpm_rules.specs.RuleMap.{place, prefix_at}
 use Rattle.lpm_rules.proofs.Views.{prefix_read}
-use Rattle.test_support.proofs.listed.are_in_order.Goals as goal
+use Rattle.test_support.proofs.rule_lists.are_in_order.Goals as goal
 
 pub loop-rule-preserved : goal.loop-rule-preserved
 loop-rule-preserved g c =

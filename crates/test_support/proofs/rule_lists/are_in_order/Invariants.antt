@@ -1,6 +1,6 @@
 use Rattle.std.proofs.Common.{◌≡◌, ◌⊎◌, ℕ, ◌<◌, ◌≤◌}
 use Rattle.lpm_rules.specs.RuleMap.{place, prefix_at}
-use Rattle.test_support.proofs.listed.are_in_order.Given as goal
+use Rattle.test_support.proofs.rule_lists.are_in_order.Given as goal
 
 abbrev pub invariant-loop-rule : goal.invariant-loop-rule
 invariant-loop-rule g l = record {

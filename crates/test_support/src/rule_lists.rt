@@ -10,16 +10,27 @@ use std::alloc::Global;
 /// A rule as plain numbers: the bits of its prefix, its length and its next hop.
 pub type Plain = (u32, u32, u32);
 
+/// The prefix of these numbers. `None` where there is none: bits past those of an address, or a length past their
+/// number.
+pub fn prefix_of<const FIRST: u32, const SECOND: u32>(
+    bits: u32,
+    len: u32,
+) -> Option<Prefix<FIRST, SECOND>>
+    requires { IsShape FIRST SECOND }
+{
+    if !Shape::<FIRST, SECOND>::is_addr(bits) {
+        return None;
+    }
+    Prefix::new(bits, len).ok()
+}
+
 /// The rule of these numbers. `None` where there is none: bits past those of an address, a length past their
 /// number, or a next hop past 24 bits.
 pub fn rule_of<const FIRST: u32, const SECOND: u32>(plain: Plain) -> Option<Rule<FIRST, SECOND>>
     requires { IsShape FIRST SECOND }
 {
     let (bits, len, number) = plain;
-    if !Shape::<FIRST, SECOND>::is_addr(bits) {
-        return None;
-    }
-    let prefix = Prefix::new(bits, len).ok()?;
+    let prefix = prefix_of(bits, len)?;
     let hop = Hop::new(number).ok()?;
     Some(Rule { prefix, hop })
 }
