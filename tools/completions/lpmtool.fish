@@ -44,7 +44,7 @@ complete -c lpmtool -n "__fish_seen_subcommand_from $tables" -l workers -x -d 'T
 complete -c lpmtool -n "__fish_seen_subcommand_from $tables" -l threshold -x -d 'How many groups may wait in limbo'
 complete -c lpmtool -n "__fish_seen_subcommand_from $tables" -l max -x -d 'The most groups that a change frees'
 complete -c lpmtool -n '__fish_seen_subcommand_from storm' -l rounds -x -d 'How often all addresses are looked up'
-complete -c lpmtool -n '__fish_seen_subcommand_from storm' -l stuck -d 'Has a worker more, which never reports'
+complete -c lpmtool -n '__fish_seen_subcommand_from storm' -l stuck -d 'Has a worker more, which looks nothing up'
 complete -c lpmtool -n '__lpmtool_wants_file lookup 2' -F
 complete -c lpmtool -n '__lpmtool_wants_file explain 1' -F
 complete -c lpmtool -n '__lpmtool_wants_file apply 3' -F

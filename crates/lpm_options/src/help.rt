@@ -143,9 +143,9 @@ Output, these lines with the numbers of the table:
   rules 3      the routes in the table
   versions 5   the changes made, those of the route file too
   in use 1     the groups in use
-  limbo 0      the groups that were given up, and that a worker may still read
+  limbo 0      the groups that were given up and aren't free yet
   free 255     the groups that are free
-  token 3      the token, which counts up as groups are given up
+  token 2      the token, which counts up as groups are given up
 
 The path `-` is standard input. Only one of the files can be. Where a route of the route
 file is refused, nothing is printed. Give a greater number:
