@@ -73,7 +73,7 @@ ELSEWHERE = {
     **dict.fromkeys("Mutex::lock Mutex::try_lock try_lock yield_now std::thread".split(), "the kit's standard library"),
     **dict.fromkeys("FinMap FinSet Appends AllocError Ipv4Addr".split(), "the kit's standard library"),
     **dict.fromkeys("lines_of without_terminator subcommand_of fault_of".split(), "bstr and clap of the kit"),
-    "lpm_perf": "a test of DPDK",
+    **dict.fromkeys("lpm_perf rte_rcu_qsbr_start rte_rcu_qsbr_check".split(), "DPDK"),
     "posix_memalign": "the C library",
 }
 GONE = {"Fib::run", "Misreport", "lpm_table"}  # as CHANGELOG.md tells, which alone may name them
@@ -198,7 +198,8 @@ def crate_of(path):
 
 def elsewhere(page):
     """The names on a page that aren't declared here; those of C are in the headers."""
-    of_headers = {name for it in HEADERS for name in re.findall(r"\w+", it.read_text())}
+    code = (re.sub(r"/\*.*?\*/", "", it.read_text(), flags=re.DOTALL) for it in HEADERS)
+    of_headers = {name for text in code for name in re.findall(r"\w+", text)}
     return set(ELSEWHERE) | of_headers | (GONE if page.path == "CHANGELOG.md" else set())
 
 
@@ -569,7 +570,7 @@ PLANTS = [
     Plant("docs/TRUSTED.md", "`IsDeepBlock`,", "`IsLongest`,", "not in the files of this row: IsLongest"),
     Plant("docs/TRUSTED.md", "`qsbr/specs/Counters`", "`qsbr/specs/Counts`", "no such file: qsbr/specs/Counts"),
     Plant("docs/TRUSTED.md", "`audit/specs/Wrong`", "`audit/specs/Right`", "no such file: audit/specs/Right"),
-    Plant("docs/TRUSTED.md", "`specs/Plain`", "`specs/Traced`", "though it has a meaning: lpm_writer/specs/Plain"),
+    Plant("docs/TRUSTED.md", "`specs/Plain`", "`specs/MemorySteps`", "though it has a meaning: lpm_writer/specs/Plain"),
     Plant("crates/lpm_sweep/README.md", "`AreNumbered`", "`AreCounted`", "AreCounted"),
     Plant("crates/fib/README.md", "`groups_fit`", "`groups_match`", "groups_match"),
     Plant("crates/bulk/README.md", "`bulk_plain` | `workers`", "`bulk_plain` | `desks`",

@@ -2,13 +2,13 @@
 //! history that explain an answer, and a report of its counts as text.
 #![tactic(auto)]
 
+mod answers;
 mod events;
-mod expected;
 mod past;
 mod report;
 mod wrong_answers;
 
-pub use expected::expect;
+pub use answers::expect;
 pub use past::Past;
 pub use report::{StormReport, TableCounts, report_text, storm_text};
 pub use wrong_answers::wrong;

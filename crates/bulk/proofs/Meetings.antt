@@ -22,7 +22,7 @@ use Rattle.std.specs.Prelude.{false, slice_set}
 use Rattle.lpm_trace.specs.declared.step.WorkerStep.{WorkerStep}
 use Rattle.bulk.specs.declared.desk.Desk.{Desk}
 use Rattle.bulk.specs.Pieces.{piece_of}
-use Rattle.bulk.proofs.Joined.{pieces_answered}
+use Rattle.bulk.proofs.PieceAnswers.{pieces_answered}
 use Rattle.std.proofs.lemmas.List.FromFn.{map-range_with_len_more}
 
 -- A writer that rests while addresses are looked up: the answers are those of its rules.

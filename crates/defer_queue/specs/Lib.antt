@@ -1,4 +1,4 @@
 pub mod Limbo
 pub mod Reclaims
 pub mod Longest
-pub mod Retired
+pub mod RetiredGroups

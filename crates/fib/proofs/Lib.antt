@@ -2,4 +2,4 @@ pub mod Steps
 pub mod Sound
 pub mod Fours
 pub mod Replays
-pub mod Begun
+pub mod InitialVersions

@@ -19,7 +19,7 @@ use Rattle.lpm_writer.specs.declared.plain_memory.PlainMemory.{PlainMemory}
 use Rattle.lpm_writer.specs.Plain.{PlainDid}
 use Rattle.lpm_writer.specs.declared.control.ControlState.{ControlState}
 use Rattle.lpm_writer.specs.Rest.{IsResting, state_of}
-use Rattle.lpm_writer.specs.Traced.{WithSteps, by_writer}
+use Rattle.lpm_writer.specs.MemorySteps.{WithSteps, by_writer}
 use Rattle.lpm_writer.proofs.Waits.{started_all}
 use Rattle.lpm_writer.proofs.StepsAlone.{named_is, named_same}
 use Rattle.lpm_writer.specs.Commands.{Commands}

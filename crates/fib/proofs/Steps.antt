@@ -13,7 +13,7 @@ use Rattle.lpm_trace.specs.declared.step.WriterStep.TheVariants.{StoreFirst, Sto
 use Rattle.lpm_trace.specs.States.{InitialState, state_after, lets_pass}
 use Rattle.lpm_writer.specs.declared.plain_memory.PlainMemory.{PlainMemory}
 use Rattle.lpm_writer.specs.Plain.{PlainDoes}
-use Rattle.lpm_writer.specs.Traced.{WithSteps, Goes, Loads, Checks, Stores, UnlinksNone, by_writer}
+use Rattle.lpm_writer.specs.MemorySteps.{WithSteps, Goes, Loads, Checks, Stores, UnlinksNone, by_writer}
 
 -- ---- counters and tokens
 

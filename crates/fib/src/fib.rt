@@ -14,7 +14,7 @@ ghost use Rattle.lpm_limits.specs.declared.refusal.Refusal.{Refusal};
 ghost use Rattle.lpm_rules.specs.declared.Put.{Put};
 
 use super::OpenError;
-use super::sorted::{parts_at, parts_of, sorted_rules};
+use super::parts::{parts_at, parts_of, sorted_rules};
 use defer_queue::Reclaimed;
 use lpm_bits::{Hop, Prefix};
 use lpm_groups::Counts;

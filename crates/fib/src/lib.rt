@@ -5,10 +5,10 @@
 mod fib;
 mod lookups;
 mod orders;
+mod parts;
 mod replay;
-mod sorted;
 
 pub use fib::Fib;
 pub use lpm_writer::OpenError;
+pub use parts::{control_of_blocks, sorted_rules};
 pub use replay::Replay;
-pub use sorted::{control_of_blocks, sorted_rules};

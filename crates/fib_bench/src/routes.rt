@@ -18,7 +18,7 @@ pub(crate) struct Route {
 /// How many routes are drawn for each one that is wanted, since a prefix may be drawn twice.
 const DRAWS: usize = 8;
 
-/// Adds that many routes to the table, and answers them in the order in which they were added.
+/// Adds that many routes to the table, and returns them in the order in which they were added.
 pub(crate) fn fill<R: Rng>(
     alloc: Global,
     table: &mut Fib<24, 8>,

@@ -5,5 +5,5 @@ pub mod Versions
 pub mod Holders
 pub mod Same
 pub mod Unique
-pub mod Unheld
+pub mod LimboFront
 pub mod Runs

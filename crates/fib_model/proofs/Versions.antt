@@ -11,7 +11,7 @@ use Rattle.fib_model.specs.declared.orders.Outcome.{Outcome}
 use Rattle.fib_model.specs.declared.orders.Outcome.TheVariants as outcome
 use Rattle.fib_model.specs.declared.orders.ReaderReport.{ReaderReport}
 use Rattle.fib_model.specs.declared.orders.ReaderReport.TheVariants as report
-use Rattle.fib_model.specs.State.{State, Keeping}
+use Rattle.fib_model.specs.State.{State, ReaderModel}
 use Rattle.fib_model.specs.Outcomes.{Does, Reports}
 use Rattle.fib_model.specs.Counters.{by_counters}
 use Rattle.fib_model.specs.Textbook.{by_intervals}
@@ -27,13 +27,13 @@ stays s z H at e = (ap (λ x. x.rules) e ∙ at.0, ap (λ x. x.updates_begun) e 
 one_more : (n m l : ℕ) → n ≡ m + 1 → m ≡ l → n ≡ suc l
 one_more n m l e f = omega arith
 
-reports : {X : Type 0} (k : Keeping X) (c : Config) (s z : State X) (H : List RuleMap) (report : ReaderReport) (w : ℕ) (out : Outcome) → IsAt s H → Reports k c s report w out z → IsAt z H
+reports : {X : Type 0} (k : ReaderModel X) (c : Config) (s z : State X) (H : List RuleMap) (report : ReaderReport) (w : ℕ) (out : Outcome) → IsAt s H → Reports k c s report w out z → IsAt z H
 reports k c s z H report w outcome.Told at d = (ap (λ x. x.rules) d.2 ∙ at.0, ap (λ x. x.updates_begun) d.2 ∙ at.1)
 reports k c s z H report w (outcome.Refused NoSuchWorker) at d = stays s z H at d.1
 reports k c s z H report w (outcome.Refused refusal) at d = stays s z H at d.3
 reports k c s z H report w other at d = absurd d
 
-step : {X : Type 0} (k : Keeping X) (first second : ℕ) (c : Config) (s z : State X) (H : List RuleMap) (order : Order first second) (outcome : Outcome)
+step : {X : Type 0} (k : ReaderModel X) (first second : ℕ) (c : Config) (s z : State X) (H : List RuleMap) (order : Order first second) (outcome : Outcome)
     → IsAt s H → Does k first second c s order outcome z → IsAt z (versions_after H order outcome)
 step k f g c s z H (order.Add p h) (outcome.Put Added) at d =
     (d.2.0 ∙ ap (λ R. insert R p h) at.0, one_more z.updates_begun s.updates_begun (length H) d.2.1 at.1)

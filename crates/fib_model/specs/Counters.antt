@@ -9,7 +9,7 @@ use Rattle.lpm_limits.specs.declared.busy.Busy.{Busy}
 use Rattle.lpm_limits.specs.declared.config.Config.{Config}
 use Rattle.fib_model.specs.declared.orders.ReaderReport.{ReaderReport}
 use Rattle.fib_model.specs.declared.orders.ReaderReport.TheVariants.{Online, Offline, Quiescent}
-use Rattle.fib_model.specs.State.{State, Transitions, Keeping, looks}
+use Rattle.fib_model.specs.State.{State, Transitions, ReaderModel, looks}
 
 -- the counter after a report
 abbrev pub counter_of : ReaderReport → ℕ → ℕ
@@ -32,7 +32,7 @@ counter_transitions = record {
   token = λ r. r.token;
 }
 
-abbrev pub by_counters : Keeping Registry
+abbrev pub by_counters : ReaderModel Registry
 by_counters = record {
   changes = counter_transitions;
   is_online = λ r w. IsOnline r.counters w;

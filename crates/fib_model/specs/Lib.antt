@@ -3,4 +3,4 @@ pub mod Outcomes
 pub mod Counters
 pub mod Textbook
 pub mod Laws
-pub mod Expected
+pub mod Accounts

@@ -21,7 +21,7 @@ use Rattle.fib_model.specs.declared.orders.Outcome.{Outcome}
 use Rattle.fib_model.specs.declared.orders.Outcome.TheVariants as outcome
 use Rattle.fib_model.specs.declared.orders.ReaderReport.{ReaderReport}
 use Rattle.fib_model.specs.declared.orders.ReaderReport.TheVariants.{Online, Offline, Quiescent}
-use Rattle.fib_model.specs.State.{State, Transitions, Keeping, IsExhausted, HasTokens, Reclaims, Unlinks}
+use Rattle.fib_model.specs.State.{State, Transitions, ReaderModel, IsExhausted, HasTokens, Reclaims, Unlinks}
 
 -- the number of deep blocks, each of which has a group
 abbrev pub groups_in_use : ℕ → ℕ → RuleMap → ℕ
@@ -115,7 +115,7 @@ Frees t s max r z = Reclaims t s.readers max s.limbo r.freed r.stopped z.limbo z
     × (z ≡ record s { readers = z.readers; limbo = z.limbo })
 
 -- the report may be made by this worker
-abbrev pub MayReport : {X : Type 0} → Keeping X → State X → ReaderReport → ℕ → Type 0
+abbrev pub MayReport : {X : Type 0} → ReaderModel X → State X → ReaderReport → ℕ → Type 0
 MayReport k s Online w = ¬ k.is_online s.readers w
 MayReport k s Offline w = k.is_online s.readers w
 MayReport k s Quiescent w = k.is_online s.readers w
@@ -127,7 +127,7 @@ refusal_of Offline = NotOnline
 refusal_of Quiescent = NotOnline
 
 -- a report, or its refusal; the number of the worker is tested first
-abbrev pub Reports : {X : Type 0} → Keeping X → Config → State X → ReaderReport → ℕ → Outcome → State X
+abbrev pub Reports : {X : Type 0} → ReaderModel X → Config → State X → ReaderReport → ℕ → Outcome → State X
     → Type 0
 Reports k c s report w outcome.Told z = (w < c.workers) × MayReport k s report w
     × (z ≡ record s { readers = k.after_report report w s.readers })
@@ -137,7 +137,7 @@ Reports k c s report w (outcome.Refused refusal) z =
 Reports k c s report w other z = ⊥
 
 -- a command came out so, and left z
-abbrev pub Does : {X : Type 0} → Keeping X → (first second : ℕ) → Config → State X
+abbrev pub Does : {X : Type 0} → ReaderModel X → (first second : ℕ) → Config → State X
     → Order first second → Outcome → State X → Type 0
 Does k f g c s (order.Add p h) (outcome.Put put) z = Adds k.changes f g c s p h (Ok put) z
 Does k f g c s (order.Add p h) (outcome.Refused refusal) z =
@@ -159,7 +159,7 @@ abbrev pub Log : ℕ → ℕ → Type 0
 Log first second = List (Order first second × Outcome)
 
 -- from `initial` on, the commands of the log came out so one after another, and left z
-abbrev pub Runs : {X : Type 0} → Keeping X → (first second : ℕ) → Config → State X
+abbrev pub Runs : {X : Type 0} → ReaderModel X → (first second : ℕ) → Config → State X
     → Log first second → State X → Type 0
 Runs k first second c initial [] z = z ≡ initial
 Runs {X} k first second c initial (done ∷ log) z = (s : State X)

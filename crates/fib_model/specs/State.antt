@@ -28,7 +28,7 @@ pub record Transitions (X : Type 0) : Type 1 where
   pub token : X → ℕ
 
 -- a way to keep reports: for changes, and for what the workers report
-pub record Keeping (X : Type 0) : Type 1 where
+pub record ReaderModel (X : Type 0) : Type 1 where
   pub changes : Transitions X
   -- whether the worker is online, and what is kept after its report
   pub is_online : X → ℕ → Type 0

@@ -1,14 +1,14 @@
 -- Meaning: reports kept as what happened: the list of whole reports and unlinkings, the newest
 -- first (DPDK Programmer's Guide, "RCU Library": grace periods and quiescent states).
 use Rattle.std.specs.Prelude.{ℕ, ◌==◌, Bool, true, false, List, length, ◌≡◌, ◌+◌, ◌<◌, [], ◌∷◌}
-use Rattle.qsbr.specs.Intervals.{Reporting, IsRunningSince, IsHeldByWorker, count_before}
+use Rattle.qsbr.specs.Intervals.{ReportRule, IsRunningSince, IsHeldByWorker, count_before}
 use Rattle.fib_model.specs.declared.event.Event.{Event}
 use Rattle.fib_model.specs.declared.event.Event.TheVariants.{Online, Offline, Quiescent, Unlinking}
 use Rattle.std.specs.FinMap.{empty}
 use Rattle.lpm_limits.specs.declared.busy.Busy.{Busy}
 use Rattle.lpm_limits.specs.declared.config.Config.{Config}
 use Rattle.fib_model.specs.declared.orders.ReaderReport.{ReaderReport}
-use Rattle.fib_model.specs.State.{State, Transitions, Keeping, looks}
+use Rattle.fib_model.specs.State.{State, Transitions, ReaderModel, looks}
 use Rattle.fib_model.specs.declared.orders.ReaderReport.TheVariants as report
 
 -- Which whole reports begin and end a reader interval, and how many unlinkings there were (DPDK
@@ -29,7 +29,7 @@ ends w (Quiescent v) = v == w
 ends w (Offline v) = v == w
 ends w Unlinking = false
 
-abbrev pub by_reports : Reporting Event
+abbrev pub by_reports : ReportRule Event
 by_reports = record { begins = begins; ends = ends }
 
 abbrev pub is_unlinking : Event → Bool
@@ -70,7 +70,7 @@ textbook c = record {
   token = λ events. c.first_token + unlinkings events;
 }
 
-abbrev pub by_intervals : Config → Keeping (List Event)
+abbrev pub by_intervals : Config → ReaderModel (List Event)
 by_intervals c = record {
   changes = textbook c;
   is_online = λ events w. (start : ℕ) × IsRunningSince by_reports events w start;

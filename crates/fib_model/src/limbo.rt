@@ -22,7 +22,7 @@ impl PlainLimbo {
     ghost use Rattle.qsbr.specs.Intervals.{IsRunningSince, IsHeldByWorker, IsTidy};
     ghost use Rattle.fib_model.specs.Textbook.{by_reports, unlinkings_before, unlinkings, textbook, by_intervals};
     ghost use Rattle.fib_model.specs.State.{MakesRoom, Reclaims, UnlinksOne, Unlinks};
-    ghost use Rattle.fib_model.specs.Expected.{IsSound, events_of, state_with};
+    ghost use Rattle.fib_model.specs.Accounts.{IsSound, events_of, state_with};
     ghost use Rattle.fib_model.specs.Outcomes.{MayReport, Reports};
     ghost use Rattle.lpm_rules.specs.RuleMap.{RuleMap};
 

@@ -18,7 +18,7 @@ pub enum ReaderReport {
     Quiescent,
 }
 
-/// A command to a table of one thread, by the names of an update file.
+/// A command to a table, by the names of an update file.
 #[derive(Clone, Copy, Debug, PartialEq, Eq)]
 pub enum Order<const FIRST: u32, const SECOND: u32> {
     /// Gives the prefix this next hop.

@@ -40,7 +40,7 @@ pub(crate) struct Plain<const FIRST: u32, const SECOND: u32> {
 }
 
 impl<const FIRST: u32, const SECOND: u32> Plain<FIRST, SECOND> {
-    ghost use Rattle.fib_model.specs.Expected.{IsSound, events_of, state_of};
+    ghost use Rattle.fib_model.specs.Accounts.{IsSound, events_of, state_of};
     ghost use Rattle.fib_model.specs.Outcomes.{Adds, Deletes, Does, Flushes, IsNew, LacksGroup, groups_in_use};
     ghost use Rattle.fib_model.specs.State.{Unlinks, HasTokens, IsExhausted};
     ghost use Rattle.fib_model.specs.Textbook.{textbook, by_intervals, initial_by_events, by_reports};

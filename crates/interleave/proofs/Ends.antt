@@ -25,7 +25,7 @@ use Rattle.std.proofs.lemmas.List.{append-nil, map-append, reverse-append}
 use Rattle.std.proofs.lemmas.List.Elements.{filter-append}
 use Rattle.lpm_trace.specs.declared.step.TraceStep.{TraceStep}
 use Rattle.lpm_trace.specs.declared.step.TraceStep.TheVariants.{Writer, Worker as ByWorker}
-use Rattle.interleave.specs.declared.seen.Seen.{Seen}
+use Rattle.interleave.specs.declared.finished_lookups.Seen.{Seen}
 use Rattle.interleave.specs.Record.{finished_by, seen_by, all_seen, seen_of}
 use Rattle.interleave.proofs.Lookups.{finished_then}
 use Rattle.lpm_trace.specs.Laws.{at_moment, by_steps, rules_of_version, Unlinks, Fills}

@@ -1,4 +1,4 @@
-pub mod Waited
+pub mod Synchronizations
 pub mod WriterScript
 pub mod Items
 pub mod WriterSteps

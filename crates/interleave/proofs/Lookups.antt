@@ -6,7 +6,7 @@ use Rattle.lpm_cells.specs.Words.{entry_in, hop_in, Words}
 use Rattle.lpm_trace.specs.Trace.{AreBegun, AreAnswered, FinishedLookup, Worker, worker_by_step, with_answers, Probe as TraceProbe, LookingUp, read_first, first_read, second_read, IsNextFirst, IsNextSecond}
 use Rattle.lpm_trace.specs.States.{begun_at, InitialState, TableState}
 use Rattle.lpm_trace.specs.declared.step.WorkerStep.{WorkerStep}
-use Rattle.interleave.specs.declared.seen.Seen.{Seen as Noted}
+use Rattle.interleave.specs.declared.finished_lookups.Seen.{Seen as Noted}
 use Rattle.interleave.specs.Record.{seen_by, finished_by, step_of_worker, next_first, next_second}
 use Rattle.interleave.specs.declared.probe.Probe.{Probe}
 use Rattle.interleave.specs.declared.probe.Probe.TheVariants.{Unread, InGroup, Answered}

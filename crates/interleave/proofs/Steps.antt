@@ -16,7 +16,7 @@ use Rattle.interleave.specs.Record.{step_of_worker, shown_by, finished_by}
 use Rattle.interleave.specs.Machine.{Shows, BeginsDeed, is_online, phase_of, probes_of, ContinuesDeed, IsAt, IsOf, IsInRange, IsNoted, Advances}
 use Rattle.std.proofs.lemmas.List.{append-nil, append_assoc, get_or_at, length-append, length-reverse, reverse-append}
 use Rattle.lpm_trace.specs.declared.step.WorkerStep.{WorkerStep}
-use Rattle.interleave.specs.declared.seen.Seen.{Seen as Noted}
+use Rattle.interleave.specs.declared.finished_lookups.Seen.{Seen as Noted}
 use Rattle.interleave.proofs.Ranges.{kept}
 use Rattle.lpm_trace.specs.declared.kind.Deed.TheVariants as deed
 use Rattle.lpm_trace.specs.declared.kind.Kind.TheVariants as kind

@@ -17,7 +17,7 @@ use Rattle.lpm_trace.specs.States.{InitialState, TableState, state_after, begun_
 use Rattle.lpm_trace.specs.declared.step.WorkerStep.TheVariants.{LoadOnline, LoadQuiescent, BeginLookup, LoadFirst, LoadSecond, EndLookup, MeetWriter}
 use Rattle.lpm_trace.specs.Trace.{Worker, Probe, Unread, InGroup, Answered, FinishedLookup, with_answers, worker_by_step, MayRead, after, MayCome, writes, worker_of, IsNextFirst, IsNextSecond, AreBegun, AreAnswered, IsBetweenDeeds}
 use Rattle.lpm_trace.proofs.Traces.{tables_of}
-use Rattle.interleave.specs.declared.seen.Seen.{Seen}
+use Rattle.interleave.specs.declared.finished_lookups.Seen.{Seen}
 use Rattle.interleave.specs.declared.worker.Worker.{Worker as Machine}
 use Rattle.interleave.specs.Machine.{IsAt, IsOf, IsNoted, Advances, probe_of, Shows}
 use Rattle.interleave.specs.Scripts.{steps_by}

@@ -13,7 +13,7 @@ use Rattle.interleave.specs.declared.probe.Grouped.{Grouped}
 use Rattle.interleave.specs.declared.worker.Phase.{Phase as OwnPhase}
 use Rattle.interleave.specs.declared.worker.Phase.TheVariants as phase
 use Rattle.interleave.specs.declared.worker.Worker.{Worker as Machine}
-use Rattle.interleave.specs.declared.seen.Seen.{Seen}
+use Rattle.interleave.specs.declared.finished_lookups.Seen.{Seen}
 use Rattle.interleave.specs.Scripts.{IsSoundFrom, IsCut, AreOf, BeginsWith, GoesOn}
 use Rattle.interleave.specs.Record.{shown_by, finished_by, seen_by}
 

@@ -27,7 +27,7 @@ use Rattle.lpm_trace.specs.declared.kind.Deed.{Deed}
 use Rattle.lpm_trace.specs.declared.step.TraceStep.{TraceStep}
 use Rattle.lpm_trace.specs.declared.step.TraceStep.TheVariants.{Writer}
 use Rattle.lpm_trace.specs.Trace.{IsTrace, writes, worker_of}
-use Rattle.interleave.specs.declared.seen.Seen.{Seen}
+use Rattle.interleave.specs.declared.finished_lookups.Seen.{Seen}
 use Rattle.interleave.specs.Record.{seen_by, all_shown, all_seen, seen_of}
 use Rattle.interleave.specs.World.{HasEnded, IsScheduled, AreScripted, writer_items}
 use Rattle.interleave.specs.declared.trace.Trace.{Trace}

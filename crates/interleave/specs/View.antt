@@ -4,7 +4,7 @@ use Rattle.lpm_cells.specs.Words.{Words}
 use Rattle.lpm_trace.specs.declared.kind.Actor.{Actor}
 use Rattle.lpm_trace.specs.declared.kind.Deed.{Deed}
 use Rattle.lpm_trace.specs.declared.kind.Step.{Step}
-use Rattle.interleave.specs.declared.seen.Seen.{Seen}
+use Rattle.interleave.specs.declared.finished_lookups.Seen.{Seen}
 use Rattle.interleave.specs.declared.worker.Worker.{Worker as Machine}
 
 -- the shared words, sequence and token; the workers, their scripts and the schedule; how many of its

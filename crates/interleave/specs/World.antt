@@ -15,7 +15,7 @@ use Rattle.lpm_cells.specs.Words.{word_of}
 use Rattle.lpm_cells.specs.declared.entry.Entry.TheVariants.{Miss}
 use Rattle.lpm_trace.specs.States.{InitialState, state_after}
 use Rattle.lpm_trace.specs.Writer.{MayStep}
-use Rattle.interleave.specs.declared.seen.Seen.{Seen}
+use Rattle.interleave.specs.declared.finished_lookups.Seen.{Seen}
 use Rattle.interleave.specs.declared.worker.Worker.{Worker as Machine}
 use Rattle.interleave.specs.Machine.{IsAt}
 use Rattle.interleave.specs.Record.{all_shown, all_seen}

@@ -77,7 +77,7 @@ pub(crate) fn answer_all<const FIRST: u32, const SECOND: u32>(
     changes: &[Change<FIRST, SECOND>],
     tries: usize,
 ) -> Result<Vec<Reply>, RunError>
-    requires opening { (c : InitialState) × WorldDid FIRST SECOND memory.old c []
+    requires initial { (c : InitialState) × WorldDid FIRST SECOND memory.old c []
         × IsResting FIRST SECOND c [] control.old.config control.old.rules control.old.pool
         control.old.versions }
     requires tries { length memory.old.schedule ≤ tries }

@@ -15,9 +15,9 @@ ghost use Rattle.interleave.specs.declared.probe.Probe.TheVariants as probe;
 ghost use Rattle.interleave.specs.declared.worker.Phase.TheVariants as phase;
 ghost use Rattle.interleave.specs.Machine.{Shows, StaysOn, IsNextUnread, IsNextGrouped, IsInRange, IsAt, IsOf, Makes, BeginsDeed, ContinuesDeed, Advances, probes_of, is_online};
 
+use super::finished_lookups::{Seen, note};
 use super::probe::{Grouped, Probe, next_in_group, next_unread, set_out};
-use super::seen::{Seen, note};
-use super::shared::Shared;
+use super::shared_state::Shared;
 use lpm_bits::Shape;
 use lpm_cells::{Cells, Entry};
 use lpm_trace::{Actor, Deed, Kind, Step};

@@ -21,8 +21,8 @@ use Rattle.fib_model.specs.Counters.{counter_transitions, initial_by_counters}
 use Rattle.route_text.specs.declared.routes.Route.{Route}
 use Rattle.lpm_files.specs.declared.failure.Failure.{Failure}
 use Rattle.lpm_commands.specs.Load.{Loads, addition_of, rules_of_routes, IsLoaded, IsFirstRefused, EndsLoading}
-use Rattle.lpm_commands.specs.Filled.{is_long, long_routes, IsEnough, BringsGroup}
-use Rattle.lpm_commands.proofs.Filled.{grouped, put_groups}
+use Rattle.lpm_commands.specs.FilledTable.{is_long, long_routes, IsEnough, BringsGroup}
+use Rattle.lpm_commands.proofs.FilledTable.{grouped, put_groups}
 use Rattle.lpm_commands.proofs.Texts.{added_limbo, added_readers}
 use mir.Val.{bool_byte}
 use lib.Dec.{leb}

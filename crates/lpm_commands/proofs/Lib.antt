@@ -1,6 +1,6 @@
-pub mod Filled
-pub mod Sorted
+pub mod FilledTable
+pub mod RuleOrder
 pub mod Groups
-pub mod Updated
+pub mod UpdateResults
 pub mod Texts
-pub mod Found
+pub mod CoverSearch

@@ -32,10 +32,10 @@ use Rattle.std.proofs.lemmas.List.Elements.{All-cons, All-nil}
 use Rattle.storm.specs.declared.plan.Plan.{Plan}
 use Rattle.storm.specs.Writer.{IsForWriter}
 use Rattle.storm.specs.Storm.{limits_of}
-use Rattle.lpm_commands.specs.Filled.{rule_of}
+use Rattle.lpm_commands.specs.FilledTable.{rule_of}
 use Rattle.lpm_commands.specs.Storm.{AreLoaded, is_change, changes_of, IsPlanOf, IsTextOver, IsStormText, EndsAfter, EndsOver, EndsRunning, EndsStormRun}
 use Rattle.lpm_commands.specs.Report.{report_files, EndsReport, IsReportedOver, IsReportText}
-use Rattle.lpm_commands.proofs.Updated.{updated, last_rules, reported}
+use Rattle.lpm_commands.proofs.UpdateResults.{updated, last_rules, reported}
 use Rattle.lpm_files.specs.declared.failure.Failure.TheVariants as failures
 use Rattle.fib_model.specs.declared.orders.Order.TheVariants as orders
 

@@ -1,5 +1,5 @@
 pub mod Load
-pub mod Filled
+pub mod FilledTable
 pub mod Lookup
 pub mod Explain
 pub mod Apply

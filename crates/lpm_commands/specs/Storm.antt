@@ -23,7 +23,7 @@ use Rattle.lpm_files.specs.declared.failure.Failure.{Failure}
 use Rattle.lpm_files.specs.declared.failure.Failure.TheVariants as failures
 use Rattle.lpm_files.specs.Inputs.{Reads, AreRead, EndsAtOne}
 use Rattle.lpm_commands.specs.Load.{EndsLoading, IsLoaded}
-use Rattle.lpm_commands.specs.Filled.{rule_of}
+use Rattle.lpm_commands.specs.FilledTable.{rule_of}
 use Rattle.lpm_commands.specs.Apply.{apply_files}
 
 -- the order is one for the writer: a worker of a storm reports by itself

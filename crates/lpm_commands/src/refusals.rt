@@ -7,7 +7,7 @@ ghost use Rattle.lpm_rules.specs.RuleMap.{with_rule};
 ghost use Rattle.fib_model.specs.Outcomes.{groups_in_use};
 ghost use Rattle.fib_model.specs.Counters.{initial_by_counters};
 ghost use Rattle.lpm_commands.specs.Load.{EndsLoading, IsLoaded};
-ghost use Rattle.lpm_commands.specs.Filled.{BringsGroup, Fits, Refuses};
+ghost use Rattle.lpm_commands.specs.FilledTable.{BringsGroup, Fits, Refuses};
 
 use lpm_files::Failure;
 use lpm_limits::{Config, Refusal};

@@ -3,7 +3,7 @@ ghost use Rattle.std.specs.Prelude.{◌≡◌, ◌^◌, ◌<◌, ◌≤◌, ◌�
 ghost use Rattle.lpm_rules.specs.RuleMap.{AreInOrder, prefix_at, rules_of};
 ghost use Rattle.fib_model.specs.Outcomes.{groups_in_use};
 ghost use Rattle.lpm_commands.specs.Load.{rules_of_routes};
-ghost use Rattle.lpm_commands.specs.Filled.{BringsGroup, rule_of};
+ghost use Rattle.lpm_commands.specs.FilledTable.{BringsGroup, rule_of};
 
 use lpm_rules::Rule;
 use lpm_sweep::in_order;

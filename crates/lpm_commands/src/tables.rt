@@ -9,7 +9,7 @@ ghost use Rattle.fib_model.specs.State.{State};
 ghost use Rattle.shared_fib.specs.Passes.{IsFullBench};
 ghost use Rattle.shared_fib.specs.RunningTable.{initial_writer};
 ghost use Rattle.lpm_commands.specs.Load.{IsLoaded, EndsLoading, addition_of, rules_of_routes};
-ghost use Rattle.lpm_commands.specs.Filled.{IsEnough, long_routes, Fits, IsFilled};
+ghost use Rattle.lpm_commands.specs.FilledTable.{IsEnough, long_routes, Fits, IsFilled};
 
 use crate::refusals::{Made, first_refusal, made_of, refused};
 use crate::sorted_rules::{count_groups, rules_in_order};
@@ -157,7 +157,8 @@ pub fn open_for_lookups<'a>(
 /// the routes made a version. No pass is handed out yet.
 ///
 /// The rules are version 0 of the running table, which counts its versions from there. A table of one thread
-/// is loaded, as [`load`] says, and goes live. So each word is stored once, whatever the file repeats.
+/// is loaded, as [`load`] says, and goes live. So the words of the first 2^26 routes are stored once, whatever
+/// the file repeats.
 pub fn open_for_changes<'a>(
     alloc: Global,
     path: &'a str,
@@ -302,9 +303,7 @@ fn add_piece(alloc: Global, table: &mut Fib<24, 8>, routes: &[Route]) -> Result<
         ≡ rules_after table.old.table.rules (map addition_of routes.now)) }
     ensures filled { OnOk result (IsFilled table.old.config table.new.table) }
 {
-    let Ok(rules) = rules_in_order(alloc, routes) else {
-        return Err(Refusal::Memory);
-    };
+    let rules = rules_in_order(alloc, routes)?;
     add_last(table, &rules)
 }
 

@@ -5,7 +5,7 @@ use Rattle.clap.specs.Words.{Row, Text}
 use Rattle.lpm_limits.specs.declared.config.Config.{Config}
 use Rattle.lpm_limits.specs.Limits.{IsIn}
 use Rattle.lpm_options.specs.Commands.{storm_rounds}
-use Rattle.lpm_options.specs.Asked.{AreLimits, Asks, IsLine, HasNumber, HaveFiles, IsFirstBadWord, IsNoAddress}
+use Rattle.lpm_options.specs.Requests.{AreLimits, Asks, IsLine, HasNumber, HaveFiles, IsFirstBadWord, IsNoAddress}
 use Rattle.lpm_options.specs.declared.CommandLine.{CommandLine}
 use Rattle.lpm_options.specs.declared.CommandLine.TheVariants.{Lookup, Apply, Report, Storm, Explain, Migrate}
 use Rattle.std.specs.List.{AllZip}

@@ -62,8 +62,8 @@ stuck_rule = flag_rule (codes "stuck")
 abbrev pub with_room : App → App
 with_room app = with_rule (with_rule app rules_rule) groups_rule
 
--- the options of each command that makes a table: how much it holds, who reads it, when a change
--- reclaims, and how much
+-- the options of `lookup`, `apply`, `report` and `storm`: how much the table holds, who reads it, when
+-- a change reclaims, and how much
 abbrev pub with_limits : App → App
 with_limits app =
     with_rule (with_rule (with_rule (with_room app) workers_rule) threshold_rule) max_rule

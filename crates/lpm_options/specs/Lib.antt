@@ -1,2 +1,2 @@
 pub mod Commands
-pub mod Asked
+pub mod Requests

@@ -145,8 +145,8 @@ fn with_routes_and_updates<'a>(alloc: Global, made: Made<'a>) -> Made<'a>
     with_arg(made, file(alloc, "UPDATES", help::UPDATES))
 }
 
-// The command with a route file, an update file and an address file, and with the options of each
-// command that makes a table.
+// The command with a route file, an update file and an address file, and with the options of
+// `lookup`, `apply`, `report` and `storm`.
 fn with_three_files<'a>(alloc: Global, made: Made<'a>) -> Made<'a>
     ensures { (app : App) → IfOk made.entry (λ c. app_of c ≡ app)
         → IfOk result (λ c. app_of c ≡ with_limits (with_file (with_file (with_file app
@@ -157,8 +157,8 @@ fn with_three_files<'a>(alloc: Global, made: Made<'a>) -> Made<'a>
     with_limits(alloc, made)
 }
 
-// The options of each command that makes a table: how much it holds, who reads it, when a change
-// reclaims, and how much.
+// The options of `lookup`, `apply`, `report` and `storm`: how much the table holds, who reads it, when
+// a change reclaims, and how much.
 fn with_limits<'a>(alloc: Global, made: Made<'a>) -> Made<'a>
     ensures { (app : App) → IfOk made.entry (λ c. app_of c ≡ app)
         → IfOk result (λ c. app_of c ≡ with_limits app) }

@@ -3,10 +3,10 @@ ghost use Rattle.std.specs.Prelude.{◌≡◌, ◌≤◌, ⊤, ℕ, IfSome, IsNo
 ghost use Rattle.std.specs.List.{AllZip};
 ghost use Rattle.clap.specs.Words.{Text, rows_of, found_of};
 ghost use Rattle.route_text.specs.Fields.{IsAddress};
-ghost use Rattle.lpm_options.specs.Asked.{AreSizes, Asks, HaveAddressWords, HasTwoStandardInputs};
-ghost use Rattle.lpm_options.specs.Asked.{IsBadWord, IsInRange, IsNoAddress, IsRefusalBy};
+ghost use Rattle.lpm_options.specs.Requests.{AreSizes, Asks, HaveAddressWords, HasTwoStandardInputs};
+ghost use Rattle.lpm_options.specs.Requests.{IsBadWord, IsInRange, IsNoAddress, IsRefusalBy};
 
-use crate::asked::{number_of, path_of};
+use crate::requests::{number_of, path_of};
 use crate::{CommandLine, Refused};
 use clap::ArgMatches;
 use lpm_limits::Config;

@@ -5,19 +5,19 @@ ghost use Rattle.std.specs.Prelude.{IfOk, IfErr, Option, List, [], map};
 ghost use Rattle.clap.specs.Words.{subcommand_of, subcommand_rows_of, fault_of};
 ghost use Rattle.clap.specs.Words.{Kinds, HasKind, Text, Row};
 ghost use Rattle.lpm_options.specs.Commands.{the_app};
-ghost use Rattle.lpm_options.specs.Asked.{IsAskedBy, IsInRange, HasTwoStandardInputs, IsRefusalBy};
+ghost use Rattle.lpm_options.specs.Requests.{IsAskedBy, IsInRange, HasTwoStandardInputs, IsRefusalBy};
 
-mod asked;
 mod commands;
 mod explain;
 mod help;
+mod requests;
 
-use asked::{command_line, has_two_standard_inputs};
 use clap::error::ErrorKind;
 use clap::{ArgMatches, Error};
 use commands::whole_command;
 use explain::explain_line;
 use lpm_limits::Config;
+use requests::{command_line, has_two_standard_inputs};
 use std::alloc::Global;
 use std::convert::AsStr;
 use std::fmt;

@@ -4,7 +4,7 @@ use Rattle.clap.specs.Words.{Text, subcommand_of, fault_of, kind_of}
 use Rattle.lpm_options.specs.declared.Refused.{Refused}
 use Rattle.lpm_options.specs.declared.Refused.TheVariants.{Usage}
 use Rattle.lpm_options.specs.Commands.{the_app}
-use Rattle.lpm_options.specs.Asked.{IsRefusalBy}
+use Rattle.lpm_options.specs.Requests.{IsRefusalBy}
 use Rattle.lpm_program.specs.Run.{IsRequest, EndsRefused, AsksForHelp, IsCause}
 
 -- a request that the parser answers is one of the words

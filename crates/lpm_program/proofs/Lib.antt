@@ -1,2 +1,2 @@
 pub mod Causes
-pub mod Ended
+pub mod RunEnds

@@ -9,7 +9,7 @@ use Rattle.lpm_options.specs.declared.CommandLine.TheVariants as commands
 use Rattle.lpm_options.specs.declared.Refused.{Refused}
 use Rattle.lpm_options.specs.declared.Refused.TheVariants as refused
 use Rattle.lpm_options.specs.Commands.{the_app}
-use Rattle.lpm_options.specs.Asked.{IsAskedBy, IsRefusalBy}
+use Rattle.lpm_options.specs.Requests.{IsAskedBy, IsRefusalBy}
 use Rattle.lpm_files.specs.declared.failure.Failure.{Failure}
 use Rattle.lpm_files.specs.Output.{Writes, WritesBeginning}
 use Rattle.lpm_commands.specs.Lookup.{IsLookupText, EndsLookup}

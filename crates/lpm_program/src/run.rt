@@ -2,7 +2,7 @@
 ghost use Rattle.std.specs.Prelude.{◌≡◌, ◌≢◌, ◌⊎◌, map, OnOk, IfErr, IsErrOf};
 ghost use Rattle.clap.specs.Words.{kind_of};
 ghost use Rattle.std.specs.declared.io.ErrorKind.TheVariants.{OutOfMemory};
-ghost use Rattle.lpm_options.specs.Asked.{IsInRange};
+ghost use Rattle.lpm_options.specs.Requests.{IsInRange};
 ghost use Rattle.lpm_files.specs.Output.{Writes, WritesBeginning};
 ghost use Rattle.lpm_program.specs.Run.{IsDone, IsBegun, IsCause, IsOutput, EndsCommand};
 ghost use Rattle.lpm_program.specs.Run.{IsShown, EndsRefused};

@@ -2,5 +2,5 @@ pub mod Longest
 pub mod Counts
 pub mod Deep
 pub mod Views
-pub mod Collected
+pub mod LengthMaps
 pub mod NextRules

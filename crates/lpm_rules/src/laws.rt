@@ -78,13 +78,13 @@ pub fn last_flush_decides()
 {}
 
 /// A map that is collected from the rules of one length has what the rules have of that length.
-#[tactic(auto, using(crate::proofs::Collected::of_length_law))]
+#[tactic(auto, using(crate::proofs::LengthMaps::of_length_law))]
 pub fn collected_is_of_length()
     ensures { CollectedIsOfLength }
 {}
 
 /// The maps of all lengths, each collected from the rules of its length, have the rules.
-#[tactic(auto, using(crate::proofs::Collected::all_lengths))]
+#[tactic(auto, using(crate::proofs::LengthMaps::all_lengths))]
 pub fn collected_are_the_rules()
     ensures { CollectedAreTheRules }
 {}

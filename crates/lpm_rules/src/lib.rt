@@ -239,7 +239,7 @@ impl<const FIRST: u32, const SECOND: u32> Rules<FIRST, SECOND> {
         }
     }
 
-    // Puts a rule into the map of its length, and answers the next hop that the prefix had.
+    // Puts a rule into the map of its length, and returns the next hop that the prefix had.
     fn store(&mut self, prefix: &Prefix<FIRST, SECOND>, hop: Hop) -> Result<Option<Hop>, AllocError>
         requires room { ¬ LacksRoomFor self.old prefix.now }
         ensures old { IfOk result (λ old. old ≡ map.get self.old.rules prefix.now) }
@@ -259,7 +259,7 @@ impl<const FIRST: u32, const SECOND: u32> Rules<FIRST, SECOND> {
         }
     }
 
-    /// Takes out the rule of this very prefix, and answers its next hop. It takes no memory.
+    /// Takes out the rule of this very prefix, and returns its next hop. It takes no memory.
     pub fn remove(&mut self, prefix: &Prefix<FIRST, SECOND>) -> Result<Hop, NoSuchRule>
         ensures hop { MatchResult result (λ hop. map.get self.old.rules prefix.now ≡ Some hop)
             (λ _. map.get self.old.rules prefix.now ≡ None) }
@@ -277,7 +277,7 @@ impl<const FIRST: u32, const SECOND: u32> Rules<FIRST, SECOND> {
         }
     }
 
-    /// Takes out all rules, and answers how many there were. It takes no memory.
+    /// Takes out all rules, and returns how many there were. It takes no memory.
     pub fn clear(&mut self) -> usize
         ensures count { result ≡ map.len self.old.rules }
         ensures empty { self.new ≡ record self.old { rules = map.empty } }

@@ -13,7 +13,7 @@ use Rattle.lpm_bits.specs.Network.{Network}
 use Rattle.lpm_rules.specs.RuleMap.{RuleMap, network_cmp, AreInOrder, place, prefix_at, rules_of}
 use Rattle.lpm_rules.specs.declared.Rule.{Rule}
 use Rattle.lpm_rules.proofs.Views.{insert_cases, insert_here, networks_total, exact_networks, prefix_read, rules_more}
-use Rattle.lpm_sweep.specs.Listed.{AreReordered}
+use Rattle.lpm_sweep.specs.ListOrder.{AreReordered}
 use Rattle.lpm_sweep.specs.Keys.{AreKeys, key_at}
 
 -- the next hop of the rule at a place of the list

@@ -6,9 +6,9 @@ use Rattle.std.proofs.lemmas.List.{get_or_append_left, get_or-append_right, get_
 use Rattle.std.proofs.lemmas.Option.{same_Some, slice_get-map, slice_get-get_or, slice_get_within}
 use Rattle.lpm_groups.specs.declared.GroupState.{GroupState}
 use Rattle.lpm_groups.specs.declared.GroupState.TheVariants.{Free, Linked}
-use Rattle.lpm_update.specs.Linked.{group_at, IsLinkTo}
-use Rattle.lpm_update.specs.Tied.{IsTied}
-use Rattle.lpm_sweep.specs.Swept.{AreNumbered, IsSwept, Fills, IsFilling}
+use Rattle.lpm_update.specs.BlockGroups.{group_at, IsLinkTo}
+use Rattle.lpm_update.specs.GroupStates.{IsTied}
+use Rattle.lpm_sweep.specs.SweepWords.{AreNumbered, IsSwept, Fills, IsFilling}
 use Rattle.std.proofs.lemmas.Nat.{pow_pos, mod_below, shr_below, pow-add, shr_split, shr_high}
 use Rattle.lpm_cells.specs.declared.entry.Entry.{Entry}
 use Rattle.lpm_cells.specs.declared.entry.Entry.TheVariants.{Miss, Hop, Group}

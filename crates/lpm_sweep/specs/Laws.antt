@@ -8,9 +8,9 @@ use Rattle.lpm_groups.specs.declared.GroupState.TheVariants.{Free, Linked}
 use Rattle.lpm_cells.specs.declared.entry.Entry.TheVariants.{Miss}
 use Rattle.lpm_cells.specs.Words.{word_of}
 use Rattle.lpm_update.specs.Represents.{Represents}
-use Rattle.lpm_update.specs.Linked.{group_at}
-use Rattle.lpm_update.specs.Tied.{IsTied}
-use Rattle.lpm_sweep.specs.Swept.{AreNumbered}
+use Rattle.lpm_update.specs.BlockGroups.{group_at}
+use Rattle.lpm_update.specs.GroupStates.{IsTied}
+use Rattle.lpm_sweep.specs.SweepWords.{AreNumbered}
 
 -- the prefix whose bits are less stands first, and of two with the same bits the shorter one
 abbrev pub OrderIsByBits : Type 0

@@ -1,4 +1,4 @@
-pub mod Listed
+pub mod ListOrder
 pub mod Keys
-pub mod Swept
+pub mod SweepWords
 pub mod Laws

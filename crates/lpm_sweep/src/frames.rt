@@ -1,7 +1,7 @@
 //! The words of the rules that cover a place, and the lists of words that they fill.
 
 ghost use Rattle.std.specs.Prelude.{◌≡◌, ℕ, ◌<◌, ◌≤◌, length, OnOk};
-ghost use Rattle.lpm_sweep.specs.Swept.{Fills, Agrees, Covers, word_by_frames, rank};
+ghost use Rattle.lpm_sweep.specs.SweepWords.{Fills, Agrees, Covers, word_by_frames, rank};
 
 use crate::word_list::WordList;
 use std::alloc::{AllocError, Global};

@@ -7,7 +7,7 @@ ghost use Rattle.lpm_cells.specs.Words.{word_of};
 ghost use Rattle.lpm_cells.specs.declared.entry.Entry.TheVariants.{Hop as EntryHop};
 ghost use Rattle.lpm_rules.specs.RuleMap.{RuleMap, AreInOrder, AllUpTo, place, prefix_at, rules_of};
 ghost use Rattle.lpm_rules.specs.Deep.{IsDeepBlock};
-ghost use Rattle.lpm_sweep.specs.Swept.{word_by_frames, IsFilling};
+ghost use Rattle.lpm_sweep.specs.SweepWords.{word_by_frames, IsFilling};
 
 use crate::frames::{Frame, Frames};
 use crate::word_list::WordList;

@@ -3,7 +3,7 @@
 ghost use Rattle.std.specs.Prelude.{◌≡◌, ◌^◌, ◌≤◌, IfOk, length};
 ghost use Rattle.lpm_sweep.specs.Keys.{AreKeys};
 ghost use Rattle.lpm_rules.specs.RuleMap.{AreInOrder, rules_of};
-ghost use Rattle.lpm_sweep.specs.Listed.{AreReordered};
+ghost use Rattle.lpm_sweep.specs.ListOrder.{AreReordered};
 
 use lpm_rules::{Rule, place_of};
 use std::alloc::{AllocError, Global};

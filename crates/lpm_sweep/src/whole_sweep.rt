@@ -7,7 +7,7 @@ ghost use Rattle.lpm_bits.specs.Widths.{IsShape};
 ghost use Rattle.lpm_rules.specs.RuleMap.{RuleMap, AreInOrder, AllUpTo, place, prefix_at, rules_of};
 ghost use Rattle.lpm_rules.specs.Deep.{deep_blocks};
 ghost use Rattle.lpm_update.specs.Represents.{Represents};
-ghost use Rattle.lpm_sweep.specs.Swept.{word_by_frames, IsSwept, AreNumbered, words_of};
+ghost use Rattle.lpm_sweep.specs.SweepWords.{word_by_frames, IsSwept, AreNumbered, words_of};
 
 use crate::frames::{Frame, Frames};
 use crate::group_words::{fill_group, word_of_rule};

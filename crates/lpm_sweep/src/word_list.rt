@@ -1,7 +1,7 @@
 //! The lists that a sweep puts its words into, however they are kept.
 
 ghost use Rattle.std.specs.Prelude.{◌≡◌, ℕ, List, length, max, OnOk};
-ghost use Rattle.lpm_sweep.specs.Swept.{Fills};
+ghost use Rattle.lpm_sweep.specs.SweepWords.{Fills};
 
 use std::alloc::AllocError;
 

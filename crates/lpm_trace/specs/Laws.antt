@@ -6,7 +6,7 @@ use Rattle.std.specs.List.{AllPairs}
 use Rattle.lpm_cells.specs.declared.entry.Entry.TheVariants.{Group}
 use Rattle.lpm_cells.specs.Words.{entry_in, IsWords}
 use Rattle.lpm_rules.specs.RuleMap.{RuleMap}
-use Rattle.qsbr.specs.Intervals.{Reporting, Interval, IsReaderInterval, Holds}
+use Rattle.qsbr.specs.Intervals.{ReportRule, Interval, IsReaderInterval, Holds}
 use Rattle.lpm_trace.specs.declared.step.WriterStep.{WriterStep}
 use Rattle.lpm_trace.specs.declared.step.WriterStep.TheVariants.{StoreFirst, StoreSecond, LoadCounter}
 use Rattle.lpm_trace.specs.declared.step.WorkerStep.{WorkerStep}
@@ -66,7 +66,7 @@ ends worker (ByWorker k (LoadQuiescent token)) = worker == k
 ends worker (ByWorker k StoreOffline) = worker == k
 ends worker other = false
 
-abbrev pub by_steps : Reporting TraceStep
+abbrev pub by_steps : ReportRule TraceStep
 by_steps = record { begins = begins; ends = ends }
 
 -- after the steps `older`, a store of the first word of block i unlinks group g: it replaces the

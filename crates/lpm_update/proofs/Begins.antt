@@ -12,7 +12,7 @@ use Rattle.lpm_cells.specs.declared.entry.Entry.TheVariants.{Miss, Hop, Group}
 use Rattle.lpm_cells.specs.Words.{entry_in, IsLast, group_in, entry_at, Words}
 use Rattle.lpm_update.specs.declared.rewrite.Rewrite.{Rewrite}
 use Rattle.lpm_update.specs.Rewrite.{Stands, rewritten_entry}
-use Rattle.lpm_update.specs.Linked.{group_at}
+use Rattle.lpm_update.specs.BlockGroups.{group_at}
 use Rattle.lpm_update.specs.Best.{AllBest, IsBest}
 use Rattle.lpm_update.specs.Represents.{HasDeepGroups, Represents, IsBegun, TurnsInto, IsFreshGroup}
 use Rattle.lpm_update.proofs.Rules.{best_unique, best_block, all_short, add_covered, add_other, covers_range, range_covers, del_covered, del_other, IsCoverEntry}

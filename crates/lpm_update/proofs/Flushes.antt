@@ -12,7 +12,7 @@ use Rattle.lpm_update.specs.declared.Did.TheVariants.{First, Unlinked, Done}
 use Rattle.lpm_update.specs.declared.flush.Flush.{Flush as FlushData}
 use Rattle.lpm_update.specs.declared.update.Plan.TheVariants.{Flush}
 use Rattle.lpm_update.specs.Rewrite.{rewritten_entry, Stands}
-use Rattle.lpm_update.specs.Linked.{IsTable, group_at}
+use Rattle.lpm_update.specs.BlockGroups.{IsTable, group_at}
 use Rattle.lpm_update.specs.Kinds.{rewrite_to_miss, AllMiss, IsFlushStore}
 use Rattle.lpm_update.specs.Update.{IsNextFirst, IsNextUnlink, group_held}
 use Rattle.lpm_update.specs.Step.{HasPassed, HeldAlong, Steps, StoresNext}

@@ -8,7 +8,7 @@ use Rattle.std.proofs.Math.Nat.{mul-le-mul_right}
 use Rattle.lpm_cells.specs.declared.entry.Entry.{Entry}
 use Rattle.lpm_cells.specs.declared.entry.Entry.TheVariants.{Miss, Hop, Group}
 use Rattle.lpm_cells.specs.Words.{entry_in, IsLast, group_in}
-use Rattle.lpm_update.specs.Linked.{IsLinkTo, group_at}
+use Rattle.lpm_update.specs.BlockGroups.{IsLinkTo, group_at}
 use Rattle.lpm_update.specs.Kinds.{AllMiss}
 use Rattle.lpm_update.specs.Update.{GivesUp}
 

@@ -14,7 +14,7 @@ use Rattle.lpm_update.specs.declared.rewrite.Rewrite.{Rewrite}
 use Rattle.lpm_update.specs.declared.link_group.LinkGroup.{LinkGroup}
 use Rattle.lpm_update.specs.declared.update.Plan.TheVariants.{Link}
 use Rattle.lpm_update.specs.Rewrite.{replaces, rewritten_entry, Stands}
-use Rattle.lpm_update.specs.Linked.{IsTable, IsLinkTo, group_at}
+use Rattle.lpm_update.specs.BlockGroups.{IsTable, IsLinkTo, group_at}
 use Rattle.lpm_update.specs.Kinds.{IsLinking, IsFillStore, IsLinkStore, filled_entry, final_entry, in_range, reach_of_link}
 use Rattle.lpm_update.specs.Update.{IsNextFirst, IsNextSecond}
 use Rattle.lpm_update.specs.Step.{Steps}

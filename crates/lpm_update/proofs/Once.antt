@@ -12,7 +12,7 @@ use Rattle.lpm_update.specs.declared.link_group.LinkGroup.{LinkGroup}
 use Rattle.lpm_update.specs.declared.unlink_group.UnlinkGroup.{UnlinkGroup}
 use Rattle.lpm_update.specs.declared.update.Plan.{Plan}
 use Rattle.lpm_update.specs.declared.update.Plan.TheVariants.{Range, Link, Unlink, Flush}
-use Rattle.lpm_update.specs.Linked.{IsTable, IsLinkTo, group_at}
+use Rattle.lpm_update.specs.BlockGroups.{IsTable, IsLinkTo, group_at}
 use Rattle.lpm_update.specs.Kinds.{IsRewriting, IsSecondStore, IsUnlinking}
 use Rattle.lpm_update.specs.Update.{IsUnderWay, IsOnward, IsNextFirst, IsNextSecond, IsNextUnlink, HasPassedFirst, HasPassedSecond, IsSecondBefore, SameGroups}
 use Rattle.lpm_update.specs.Step.{Steps, StoresNext, HasPassed, HeldAlong}

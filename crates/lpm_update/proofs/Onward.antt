@@ -7,7 +7,7 @@ use Rattle.lpm_update.specs.declared.link_group.LinkGroup.{LinkGroup}
 use Rattle.lpm_update.specs.declared.rewrite_range.RewriteRange.{RewriteRange}
 use Rattle.lpm_update.specs.declared.update.Plan.{Plan}
 use Rattle.lpm_update.specs.declared.update.Plan.TheVariants.{Range, Link, Unlink, Flush}
-use Rattle.lpm_update.specs.Linked.{IsTable}
+use Rattle.lpm_update.specs.BlockGroups.{IsTable}
 use Rattle.lpm_update.specs.Rewrite.{Skips}
 use Rattle.lpm_update.specs.Kinds.{IsFurther, Visits}
 use Rattle.lpm_update.specs.Update.{IsUnderWay, IsOnward}

@@ -8,7 +8,7 @@ use Rattle.lpm_cells.specs.declared.entry.Entry.TheVariants.{Miss, Hop, Group}
 use Rattle.lpm_cells.specs.Words.{IsEntry, word_of, entry_in, IsLast, IsLastWord, IsWord, Words, IsWords, IsFirst, IsFirstWord, HasRoom, entry_at, last_entry, with_first, with_second}
 use Rattle.lpm_update.specs.Rewrite.{replaces, rewritten_entry, Stands, Skips}
 use Rattle.lpm_update.specs.Kinds.{IsWhole, IsRewriting, IsRangeOf}
-use Rattle.lpm_update.specs.Linked.{IsTable, IsLinkTo}
+use Rattle.lpm_update.specs.BlockGroups.{IsTable, IsLinkTo}
 use Rattle.std.proofs.Math.ListN.{length-set}
 use Rattle.lpm_cells.proofs.ReadBack.{entry_in-word_of}
 use Rattle.std.proofs.Math.Nat.{mul-le-mul_right, mul_assoc}

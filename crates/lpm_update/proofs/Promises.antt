@@ -2,7 +2,7 @@
 use Rattle.std.proofs.Common.{ℕ, ◌+◌}
 use Rattle.lpm_cells.specs.Words.{IsLastWord, Words, IsFirstWord}
 use Rattle.lpm_update.specs.declared.update.Plan.{Plan}
-use Rattle.lpm_update.specs.Linked.{IsTable}
+use Rattle.lpm_update.specs.BlockGroups.{IsTable}
 use Rattle.lpm_update.specs.Update.{IsUnderWay}
 use Rattle.lpm_update.specs.Step.{AllowsNext}
 use Rattle.lpm_update.proofs.Runs.{next_store as next}

@@ -12,7 +12,7 @@ use Rattle.lpm_update.specs.declared.rewrite.Rewrite.{Rewrite}
 use Rattle.lpm_update.specs.declared.rewrite_range.RewriteRange.{RewriteRange}
 use Rattle.lpm_update.specs.Rewrite.{replaces, Stands, Skips}
 use Rattle.lpm_update.specs.Kinds.{IsRewriting, IsWhole, IsFirstStore, IsSecondStore, Visits, IsFurther}
-use Rattle.lpm_update.specs.Linked.{IsTable, IsLinkTo, group_at}
+use Rattle.lpm_update.specs.BlockGroups.{IsTable, IsLinkTo, group_at}
 use Rattle.lpm_update.proofs.Places.{block_low, block_high, block_of, followed_last, in_group, whole_inside, whole_block, at_block, first_word, first_room, stored_first, stored_second, last_word, word_entry, stands_skip, stands_first, stands_second, table_first, table_second, whole_first}
 use Rattle.std.proofs.lemmas.Bool.{cases_lt}
 use Rattle.lpm_cells.specs.declared.entry.Entry.{Entry}

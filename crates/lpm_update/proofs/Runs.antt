@@ -20,7 +20,7 @@ use Rattle.std.proofs.lemmas.List.{get_or-set_same}
 use Rattle.std.proofs.Math.ListN.{length-set}
 use Rattle.lpm_update.specs.declared.Did.TheVariants.{First, Second, Unlinked, Done}
 use Rattle.lpm_update.specs.declared.rewrite_range.RewriteRange.{RewriteRange}
-use Rattle.lpm_update.specs.Linked.{IsTable, group_at}
+use Rattle.lpm_update.specs.BlockGroups.{IsTable, group_at}
 use Rattle.lpm_update.specs.Step.{Steps, StoresNext, HasPassed}
 use Rattle.lpm_update.proofs.Groups.{first_within, held_by, there_is}
 use Rattle.lpm_update.proofs.RangeSteps.{come_on, place_within, range_first, range_second, range_done}

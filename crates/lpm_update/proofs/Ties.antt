@@ -7,9 +7,9 @@ use Rattle.lpm_cells.specs.Words.{group_in, entry_in, word_of, Words, entry_at, 
 use Rattle.lpm_groups.specs.declared.GroupState.{GroupState}
 use Rattle.lpm_groups.specs.declared.GroupState.TheVariants.{Free, Linked}
 use Rattle.lpm_groups.specs.States.{IsLinkedTo}
-use Rattle.lpm_update.specs.Linked.{IsTable, group_at, IsLinkTo}
+use Rattle.lpm_update.specs.BlockGroups.{IsTable, group_at, IsLinkTo}
 use Rattle.lpm_update.specs.Represents.{IsFreshGroup, HasDeepGroups}
-use Rattle.lpm_update.specs.Tied.{IsTied, HasGroupRoom}
+use Rattle.lpm_update.specs.GroupStates.{IsTied, HasGroupRoom}
 use Rattle.lpm_update.specs.Laws.{TiedSame, TiedGone, TiedTaken, BlankRepresents, blank_words, LinkedAreDeep}
 use Rattle.lpm_update.proofs.Groups.{here_is, there_is}
 use Rattle.lpm_update.proofs.RangeSteps.{past_group}

@@ -17,7 +17,7 @@ use Rattle.lpm_update.specs.declared.rewrite_range.RewriteRange.{RewriteRange}
 use Rattle.lpm_update.specs.declared.unlink_group.UnlinkGroup.{UnlinkGroup}
 use Rattle.lpm_update.specs.declared.update.Plan.{Plan}
 use Rattle.lpm_update.specs.declared.update.Plan.TheVariants.{Range, Unlink}
-use Rattle.lpm_update.specs.Linked.{IsTable, IsLinkTo, group_at}
+use Rattle.lpm_update.specs.BlockGroups.{IsTable, IsLinkTo, group_at}
 use Rattle.lpm_update.specs.Update.{IsUnderWay, IsNextUnlink, SameGroups, group_held, places_left}
 use Rattle.lpm_update.specs.Step.{HasPassed, HeldAlong, Steps, StoresNext}
 use Rattle.lpm_update.proofs.Groups.{gives_up, group_set_same, group_set_other, last_none, not_unlinked, here_is, there_is}

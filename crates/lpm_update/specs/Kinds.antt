@@ -7,7 +7,7 @@ use Rattle.lpm_cells.specs.declared.entry.Entry.TheVariants.{Miss, Group}
 use Rattle.lpm_update.specs.declared.rewrite.Kind.TheVariants.{Flush}
 use Rattle.lpm_update.specs.declared.rewrite.Rewrite.{Rewrite}
 use Rattle.lpm_cells.specs.declared.entry.Entry.{Entry}
-use Rattle.lpm_update.specs.Linked.{IsLinkTo}
+use Rattle.lpm_update.specs.BlockGroups.{IsLinkTo}
 use Rattle.lpm_update.specs.Rewrite.{rewritten_entry, replaces, Skips, Stands}
 use Rattle.lpm_update.specs.declared.link_group.LinkGroup.{LinkGroup}
 use Rattle.lpm_bits.specs.Network.{Network}

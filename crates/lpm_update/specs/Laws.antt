@@ -5,7 +5,7 @@ use Rattle.lpm_cells.specs.Words.{Words, entry_at, IsFirstWord, with_first, with
 use Rattle.lpm_update.specs.declared.Did.{Did}
 use Rattle.lpm_update.specs.declared.Did.TheVariants.{First, Second, Unlinked, Done}
 use Rattle.lpm_update.specs.declared.update.Plan.{Plan}
-use Rattle.lpm_update.specs.Linked.{IsTable, group_at}
+use Rattle.lpm_update.specs.BlockGroups.{IsTable, group_at}
 use Rattle.lpm_update.specs.Update.{IsUnderWay, StandsSoFar, HasGroups, IsOnward, IsOver, SameGroups, GivesUp, entry_after, group_held}
 use Rattle.lpm_update.specs.Step.{AllowsNext, Steps, SetsWord}
 use Rattle.std.specs.List.{AllPairs}
@@ -20,7 +20,7 @@ use Rattle.lpm_rules.specs.Deep.{deep_blocks}
 use Rattle.lpm_rules.specs.Longest.{IsLongestHop}
 use Rattle.lpm_update.specs.Best.{IsBest}
 use Rattle.lpm_update.specs.Represents.{Represents, TurnsInto, IsBegun, IsFreshGroup}
-use Rattle.lpm_update.specs.Tied.{IsTied, HasGroupRoom, SameLinksBut}
+use Rattle.lpm_update.specs.GroupStates.{IsTied, HasGroupRoom, SameLinksBut}
 use Rattle.std.specs.FinSet as set
 
 -- A run of steps of one change, each by the contract of `Update::step` (this project's).

@@ -1,9 +1,9 @@
 pub mod Rewrite
-pub mod Linked
+pub mod BlockGroups
 pub mod Best
 pub mod Represents
 pub mod Kinds
 pub mod Update
 pub mod Step
-pub mod Tied
+pub mod GroupStates
 pub mod Laws

@@ -7,7 +7,7 @@ use Rattle.lpm_cells.specs.Words.{Words, HasRoom, entry_at}
 use Rattle.lpm_rules.specs.RuleMap.{RuleMap, AllNetworks}
 use Rattle.lpm_rules.specs.Deep.{IsDeepBlock}
 use Rattle.lpm_update.specs.declared.update.Plan.{Plan}
-use Rattle.lpm_update.specs.Linked.{IsLinkTo, IsTable, group_at}
+use Rattle.lpm_update.specs.BlockGroups.{IsLinkTo, IsTable, group_at}
 use Rattle.lpm_update.specs.Best.{AllBest}
 use Rattle.lpm_update.specs.Update.{IsUnderWay, StandsSoFar, HasGroups, entry_after, group_after}
 

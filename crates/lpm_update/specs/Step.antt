@@ -6,7 +6,7 @@ use Rattle.lpm_cells.specs.Words.{Words, with_first, with_second}
 use Rattle.lpm_update.specs.declared.Did.{Did}
 use Rattle.lpm_update.specs.declared.Did.TheVariants.{First, Second, Unlinked, Done}
 use Rattle.lpm_update.specs.declared.update.Plan.{Plan}
-use Rattle.lpm_update.specs.Linked.{IsTable}
+use Rattle.lpm_update.specs.BlockGroups.{IsTable}
 use Rattle.lpm_update.specs.Update.{IsUnderWay, StandsSoFar, HasGroups, IsOver, IsNextFirst, IsNextSecond, IsNextUnlink, SameGroups, GivesUp, IsOnward, HasPassedFirst, HasPassedSecond, group_held, places_left}
 
 -- the cells allow the change's next store

@@ -7,7 +7,7 @@ use Rattle.lpm_update.specs.declared.rewrite.Rewrite.{Rewrite}
 use Rattle.lpm_update.specs.declared.update.Plan.{Plan}
 use Rattle.lpm_update.specs.declared.update.Plan.TheVariants.{Range, Link, Unlink, Flush}
 use Rattle.lpm_update.specs.Rewrite.{Stands, Skips}
-use Rattle.lpm_update.specs.Linked.{IsLinkTo, group_at}
+use Rattle.lpm_update.specs.BlockGroups.{IsLinkTo, group_at}
 use Rattle.lpm_update.specs.Kinds.{IsRewriting, IsFurther, IsFirstStore, IsSecondStore, IsLinking, IsFillStore, IsLinkStore, reach_of_link, final_entry, IsUnlinking, IsUnlinkStore, rewrite_to_miss, IsFlushStore}
 
 -- the first address of the range

@@ -16,7 +16,7 @@ impl Flush {
     ghost use Rattle.std.specs.Prelude.{◌≡◌, ℕ, ◌^◌, ◌<◌, ◌≤◌};
     ghost use Rattle.lpm_bits.specs.Widths.{IsShape};
     ghost use Rattle.lpm_update.specs.declared.update.Plan.TheVariants.{Flush as Flushing};
-    ghost use Rattle.lpm_update.specs.Linked.{IsTable};
+    ghost use Rattle.lpm_update.specs.BlockGroups.{IsTable};
     ghost use Rattle.lpm_update.specs.Update.{IsUnderWay};
     ghost use Rattle.lpm_update.specs.Step.{AllowsNext, Steps, SetsWord};
 

@@ -26,7 +26,7 @@ impl LinkGroup {
     ghost use Rattle.lpm_cells.specs.declared.entry.Entry.TheVariants.{Hop as EntryHop};
     ghost use Rattle.lpm_update.specs.declared.rewrite.Kind.TheVariants.{Add};
     ghost use Rattle.lpm_update.specs.declared.update.Plan.TheVariants.{Link};
-    ghost use Rattle.lpm_update.specs.Linked.{IsTable};
+    ghost use Rattle.lpm_update.specs.BlockGroups.{IsTable};
     ghost use Rattle.lpm_update.specs.Kinds.{IsLinking, final_entry};
     ghost use Rattle.lpm_update.specs.Represents.{IsFreshGroup};
     ghost use Rattle.lpm_update.specs.Update.{IsUnderWay};

@@ -27,7 +27,7 @@ impl RewriteRange {
     ghost use Rattle.lpm_update.specs.declared.rewrite.Kind.TheVariants.{Add, Delete};
     ghost use Rattle.lpm_update.specs.declared.update.Plan.TheVariants.{Range};
     ghost use Rattle.lpm_update.specs.Rewrite.{IsOnWords, Skips};
-    ghost use Rattle.lpm_update.specs.Linked.{IsTable};
+    ghost use Rattle.lpm_update.specs.BlockGroups.{IsTable};
     ghost use Rattle.lpm_update.specs.Kinds.{IsRangeOf, Visits};
     ghost use Rattle.lpm_update.specs.Update.{IsUnderWay};
     ghost use Rattle.lpm_update.specs.Step.{AllowsNext, Steps, SetsWord};

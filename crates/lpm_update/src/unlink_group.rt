@@ -19,7 +19,7 @@ impl UnlinkGroup {
     ghost use Rattle.std.specs.Prelude.{◌≡◌};
     ghost use Rattle.lpm_bits.specs.Widths.{IsShape};
     ghost use Rattle.lpm_update.specs.declared.update.Plan.TheVariants.{Unlink};
-    ghost use Rattle.lpm_update.specs.Linked.{IsTable};
+    ghost use Rattle.lpm_update.specs.BlockGroups.{IsTable};
     ghost use Rattle.lpm_update.specs.Update.{IsUnderWay};
     ghost use Rattle.lpm_update.specs.Step.{AllowsNext, Steps, SetsWord};
 

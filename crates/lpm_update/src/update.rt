@@ -43,7 +43,7 @@ impl Update {
     ghost use Rattle.lpm_rules.specs.RuleMap.{RuleMap};
     ghost use Rattle.lpm_rules.specs.Longest.{IsUncovered, IsCoverRule};
     ghost use Rattle.lpm_update.specs.Represents.{Represents, IsBegun, TurnsInto, AddFits, LastFits, held_with};
-    ghost use Rattle.lpm_update.specs.Linked.{IsTable, group_at};
+    ghost use Rattle.lpm_update.specs.BlockGroups.{IsTable, group_at};
     ghost use Rattle.lpm_update.specs.Update.{FillsFor, IsUnderWay, group_held};
     ghost use Rattle.lpm_update.specs.Step.{AllowsNext, Steps, SetsWord};
     ghost use Rattle.lpm_update.specs.Laws.{AllowsAlong, RunsOn};

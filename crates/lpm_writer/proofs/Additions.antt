@@ -24,9 +24,9 @@ use Rattle.lpm_rules.specs.Deep.{IsDeepBlock, block_of, deep_blocks}
 use Rattle.lpm_rules.proofs.Views.{not_some, remove_insert, insert_here}
 use Rattle.lpm_rules.proofs.Deep.{has_deep_blocks, put_brings_block}
 use Rattle.lpm_update.specs.declared.update.Plan.{Plan}
-use Rattle.lpm_update.specs.Linked.{group_at}
+use Rattle.lpm_update.specs.BlockGroups.{group_at}
 use Rattle.lpm_update.specs.Represents.{AddFits, IsBegun, Represents, TurnsInto, held_with}
-use Rattle.lpm_update.specs.Tied.{IsTied}
+use Rattle.lpm_update.specs.GroupStates.{IsTied}
 use Rattle.lpm_update.specs.Update.{FillsFor, group_held}
 use Rattle.lpm_update.proofs.Promises.{tied_same, tied_taken}
 use Rattle.fib_model.specs.State.{State, Transitions, HasTokens, Unlinks}

@@ -12,7 +12,7 @@ use Rattle.lpm_groups.specs.declared.GroupState.{GroupState}
 use Rattle.lpm_groups.specs.declared.GroupState.TheVariants.{Free, Linked as LinkedTo, Limbo}
 use Rattle.lpm_groups.specs.States.{IsLinkedTo, IsFreeAt}
 use Rattle.lpm_groups.proofs.Marks.{slice_get-set_same, slice_get-set_other}
-use Rattle.defer_queue.specs.Retired.{IsAbsent}
+use Rattle.defer_queue.specs.RetiredGroups.{IsAbsent}
 use Rattle.lpm_update.specs.declared.Did.{Did}
 use Rattle.lpm_update.specs.declared.link_group.LinkGroup.{LinkGroup}
 use Rattle.lpm_update.specs.declared.rewrite_range.RewriteRange.{RewriteRange}
@@ -20,9 +20,9 @@ use Rattle.lpm_update.specs.declared.unlink_group.UnlinkGroup.{UnlinkGroup}
 use Rattle.lpm_update.specs.declared.update.Plan.{Plan}
 use Rattle.lpm_update.specs.declared.update.Plan.TheVariants.{Range, Link, Unlink, Flush}
 use Rattle.lpm_update.specs.Laws.{StoreMoves, HasCome}
-use Rattle.lpm_update.specs.Linked.{IsLinkTo, group_at}
+use Rattle.lpm_update.specs.BlockGroups.{IsLinkTo, group_at}
 use Rattle.lpm_update.specs.Step.{Steps}
-use Rattle.lpm_update.specs.Tied.{IsTied}
+use Rattle.lpm_update.specs.GroupStates.{IsTied}
 use Rattle.lpm_update.specs.Update.{IsUnderWay, IsNextFirst, IsNextSecond, IsNextUnlink, IsOnward, IsOver, HasGroups, HasPassedFirst, HasPassedSecond, group_held}
 use Rattle.lpm_update.proofs.Groups.{group_set_same, here_is, last_none}
 use Rattle.lpm_update.proofs.Onward.{by_kind}

@@ -6,7 +6,7 @@ use Rattle.lpm_trace.specs.declared.step.WriterStep.TheVariants.{LoadCounter}
 use Rattle.lpm_trace.specs.States.{InitialState, TableState, state_after, lets_pass}
 use Rattle.lpm_trace.specs.Progress.{WriterProgress, Check, IsLoadDue, progress_after_pass, progress_after_stop, progress_after_load, Nothing}
 use Rattle.lpm_trace.specs.Writer.{progress_after, MayStep}
-use Rattle.lpm_writer.specs.Traced.{Loads, WithSteps, Goes, LoadsUntilStopped, Checks}
+use Rattle.lpm_writer.specs.MemorySteps.{Loads, WithSteps, Goes, LoadsUntilStopped, Checks}
 use Rattle.lpm_writer.specs.GroupsMatch.{MayLoadCounters, SameTables, HasNothingDue}
 use Rattle.std.specs.Prelude.{◌&&◌, Result, Ok, Err, Some}
 use Rattle.lpm_limits.specs.declared.busy.Busy.{Busy}

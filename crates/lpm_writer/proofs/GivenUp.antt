@@ -10,7 +10,7 @@ use Rattle.lpm_trace.specs.Progress.{Bump}
 use Rattle.lpm_trace.specs.Writer.{progress_after}
 use Rattle.lpm_writer.specs.declared.pool.GroupPool.{GroupPool}
 use Rattle.lpm_writer.specs.GroupsMatch.{AreBelow, GroupsMatchState, HasNothingDue, Remembers, SameTables}
-use Rattle.lpm_writer.specs.Traced.{WithSteps, Goes, by_writer, state_of_traced}
+use Rattle.lpm_writer.specs.MemorySteps.{WithSteps, Goes, by_writer, state_of_traced}
 
 -- the update has just stored over the link of this group. The token is bumped next: from then on the
 -- group is retired under that token, behind the groups that wait.

@@ -13,9 +13,9 @@ use Rattle.lpm_groups.specs.States.{limbo_count}
 use Rattle.lpm_limits.specs.Limits.{IsConfig}
 use Rattle.lpm_limits.specs.declared.config.Config.{Config}
 use Rattle.lpm_rules.specs.RuleMap.{RuleMap, network_cmp}
-use Rattle.lpm_update.specs.Linked.{group_at}
+use Rattle.lpm_update.specs.BlockGroups.{group_at}
 use Rattle.lpm_update.specs.Represents.{Represents}
-use Rattle.lpm_update.specs.Tied.{IsTied, HasGroupRoom}
+use Rattle.lpm_update.specs.GroupStates.{IsTied, HasGroupRoom}
 use Rattle.lpm_update.proofs.Promises.{best_hop, blank}
 use Rattle.lpm_trace.specs.States.{InitialState, Status, Unused, Linked as LinkedTo, Retired, IsFree, IsSettled}
 use Rattle.lpm_writer.specs.Rest.{IsResting, blank_state}

@@ -12,6 +12,6 @@ pub mod Additions
 pub mod LimboItems
 pub mod StepsAlone
 pub mod Initial
-pub mod Unchanged
+pub mod SameRules
 pub mod Takes
 pub mod GivenUp

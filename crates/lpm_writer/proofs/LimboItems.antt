@@ -6,12 +6,12 @@ use Rattle.lpm_groups.specs.declared.GroupState.{GroupState}
 use Rattle.lpm_groups.specs.declared.GroupState.TheVariants.{Linked, Free, Limbo}
 use Rattle.lpm_groups.specs.States.{IsLeastFree, IsLinkedTo, IsLimboAt, IsFreeAt, is_free, is_linked, free_count, linked_count}
 use Rattle.lpm_groups.proofs.Marks.{slice_get-set_other, slice_get-set_same, Releases-set, Retires-set, Takes-set, counts-total, count_by-some}
-use Rattle.lpm_update.specs.Tied.{SameLinksBut}
+use Rattle.lpm_update.specs.GroupStates.{SameLinksBut}
 use Rattle.lpm_writer.specs.Limbo.{IsFreed, AreWaiting, IsQueued, IsTaken, tokens_of}
 use Rattle.lpm_writer.specs.Take.{LinksLeast, MayTake}
 use Rattle.std.proofs.Math.ListN.{length-set}
 use Rattle.std.proofs.lemmas.Option.{same_Some, slice_get_within}
-use Rattle.defer_queue.specs.Retired.{IsAbsent}
+use Rattle.defer_queue.specs.RetiredGroups.{IsAbsent}
 use Rattle.defer_queue.specs.Limbo.{Limbo as Queue}
 use Rattle.std.proofs.lemmas.List.{length-map}
 use Rattle.lpm_limits.specs.declared.busy.Busy.{Busy}

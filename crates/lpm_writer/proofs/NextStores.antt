@@ -8,7 +8,7 @@ use Rattle.lpm_update.specs.declared.link_group.LinkGroup.{LinkGroup}
 use Rattle.lpm_update.specs.declared.rewrite_range.RewriteRange.{RewriteRange}
 use Rattle.lpm_update.specs.declared.update.Plan.{Plan}
 use Rattle.lpm_update.specs.declared.update.Plan.TheVariants.{Range, Link, Unlink, Flush}
-use Rattle.lpm_update.specs.Linked.{IsTable, IsLinkTo, group_at}
+use Rattle.lpm_update.specs.BlockGroups.{IsTable, IsLinkTo, group_at}
 use Rattle.lpm_update.specs.Kinds.{IsSecondStore, final_entry}
 use Rattle.lpm_update.specs.Update.{IsUnderWay, IsNextFirst, IsNextSecond, IsNextUnlink, IsOnward, group_held, IsOver, entry_after, from_of, end_of, rewrite_of}
 use Rattle.std.proofs.lemmas.Bool.{cases_eq}
@@ -19,7 +19,7 @@ use Rattle.lpm_update.proofs.Onward.{by_kind}
 use Rattle.lpm_writer.specs.GroupToFill.{group_to_fill, unless_linked, IsTakenBy}
 use Rattle.lpm_groups.specs.declared.GroupState.{GroupState}
 use Rattle.lpm_update.specs.Laws.{StoreMoves, HasCome}
-use Rattle.lpm_update.specs.Tied.{IsTied}
+use Rattle.lpm_update.specs.GroupStates.{IsTied}
 use Rattle.lpm_update.proofs.Runs.{next_store, next_first, next_second, next_unlink, from_same, end_same, rewrite_same, over_entries}
 use Rattle.lpm_trace.specs.declared.step.WriterStep.{WriterStep}
 use Rattle.lpm_trace.specs.declared.step.WriterStep.TheVariants.{StoreFirst, StoreSecond, EndUpdate}

@@ -16,7 +16,7 @@ use Rattle.lpm_writer.proofs.LimboItems.{free_linked, freed_states, waiting_set}
 use Rattle.lpm_writer.proofs.Checks.{quiet_on, HasPassed, HasStopped, quiet_same, check_passes, check_stops}
 use Rattle.std.proofs.lemmas.Bool.{cases_eq}
 use Rattle.std.proofs.lemmas.Option.{same_Some, slice_get_within}
-use Rattle.defer_queue.specs.Retired.{IsAbsent}
+use Rattle.defer_queue.specs.RetiredGroups.{IsAbsent}
 use Rattle.lpm_groups.specs.declared.GroupState.{GroupState}
 use Rattle.lpm_groups.specs.States.{IsLimboAt, IsFreeAt}
 use Rattle.lpm_groups.proofs.Marks.{slice_get-set_same, slice_get-set_other}
@@ -25,7 +25,7 @@ use Rattle.fib_model.specs.State.{Reclaims}
 use Rattle.defer_queue.specs.Reclaims.{FreesFront}
 use Rattle.defer_queue.specs.Reclaims as queue
 use Rattle.defer_queue.proofs.Longest.{FreesFront-more}
-use Rattle.lpm_writer.specs.Traced.{WithSteps, Checks, by_writer}
+use Rattle.lpm_writer.specs.MemorySteps.{WithSteps, Checks, by_writer}
 
 -- A group that is retired: its token is bumped, and it goes last into limbo.
 

@@ -10,9 +10,9 @@ use Rattle.lpm_limits.specs.declared.config.Config.{Config}
 use Rattle.lpm_rules.specs.RuleMap.{RuleMap, RuleList}
 use Rattle.lpm_update.specs.declared.update.Plan.{Plan}
 use Rattle.lpm_update.specs.declared.update.Plan.TheVariants.{Range, Link, Unlink, Flush}
-use Rattle.lpm_update.specs.Linked.{group_at}
+use Rattle.lpm_update.specs.BlockGroups.{group_at}
 use Rattle.lpm_update.specs.Represents.{Represents, IsBegun, TurnsInto}
-use Rattle.lpm_update.specs.Tied.{IsTied}
+use Rattle.lpm_update.specs.GroupStates.{IsTied}
 use Rattle.lpm_update.specs.Update.{FillsFor, entry_after, group_held}
 use Rattle.lpm_update.proofs.Promises.{best_hop, linked_deep, tied_same}
 use Rattle.fib_model.specs.State.{State, Transitions, IsExhausted, HasTokens, Unlinks}
@@ -24,7 +24,7 @@ use Rattle.lpm_trace.specs.States.{InitialState, TableState, state_after, answer
 use Rattle.lpm_trace.specs.Writer.{MayStep}
 use Rattle.lpm_writer.specs.declared.pool.GroupPool.{GroupPool}
 use Rattle.lpm_writer.specs.Limbo.{IsFreed, IsQueued, tokens_of}
-use Rattle.lpm_writer.specs.Traced.{by_writer}
+use Rattle.lpm_writer.specs.MemorySteps.{by_writer}
 use Rattle.lpm_writer.specs.GroupsMatch.{HasNothingDue, SameTables, OnlyChecks, GroupsMatchSteps}
 use Rattle.lpm_writer.specs.Steps.{StoresOnce}
 use Rattle.lpm_writer.specs.Take.{MayTake}

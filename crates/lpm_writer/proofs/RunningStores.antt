@@ -9,11 +9,11 @@ use Rattle.lpm_rules.specs.RuleMap.{RuleMap}
 use Rattle.lpm_update.specs.declared.Did.{Did}
 use Rattle.lpm_update.specs.declared.Did.TheVariants.{First, Second, Unlinked, Done}
 use Rattle.lpm_update.specs.declared.update.Plan.{Plan}
-use Rattle.lpm_update.specs.Linked.{group_at}
+use Rattle.lpm_update.specs.BlockGroups.{group_at}
 use Rattle.lpm_update.specs.Represents.{Represents, TurnsInto}
 use Rattle.lpm_update.specs.Laws.{HasCome, Leads, RunsOn, AllowsAlong}
 use Rattle.lpm_update.specs.Step.{Steps, AllowsNext}
-use Rattle.lpm_update.specs.Tied.{IsTied, SameLinksBut}
+use Rattle.lpm_update.specs.GroupStates.{IsTied, SameLinksBut}
 use Rattle.lpm_update.specs.Update.{SameGroups, group_held}
 use Rattle.lpm_update.proofs.Promises.{run_goes_on, run_ends, tied_same, tied_gone}
 use Rattle.lpm_trace.specs.declared.step.WriterStep.{WriterStep}

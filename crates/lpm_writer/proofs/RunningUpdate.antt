@@ -18,7 +18,7 @@ use Rattle.lpm_trace.specs.Writer.{progress_after, MayStep}
 use Rattle.lpm_writer.specs.declared.pool.GroupPool.{GroupPool}
 use Rattle.fib_model.specs.State.{Unlinks}
 use Rattle.lpm_writer.specs.Limbo.{tokens_of}
-use Rattle.lpm_writer.specs.Traced.{WithSteps, Stores, by_writer}
+use Rattle.lpm_writer.specs.MemorySteps.{WithSteps, Stores, by_writer}
 use Rattle.lpm_writer.specs.GroupsMatch.{HasNothingDue, GroupsMatchSteps}
 use Rattle.lpm_writer.specs.Steps.{since_opened, StoresOnce}
 use Rattle.lpm_writer.specs.GroupToFill.{group_to_fill, IsTakenBy, HasWidths}

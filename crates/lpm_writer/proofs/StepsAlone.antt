@@ -13,7 +13,7 @@ use Rattle.lpm_limits.specs.declared.config.Config.{Config}
 use Rattle.lpm_update.specs.declared.Did.{Did}
 use Rattle.lpm_update.specs.declared.Did.TheVariants.{First, Second, Unlinked}
 use Rattle.lpm_update.specs.declared.update.Plan.{Plan}
-use Rattle.lpm_update.specs.Linked.{IsTable}
+use Rattle.lpm_update.specs.BlockGroups.{IsTable}
 use Rattle.lpm_update.specs.Laws.{IsSameWord}
 use Rattle.lpm_update.specs.Step.{Steps}
 use Rattle.lpm_update.specs.Update.{IsUnderWay}
@@ -23,7 +23,7 @@ use Rattle.lpm_trace.specs.declared.step.WriterStep.TheVariants.{StoreFirst, Sto
 use Rattle.lpm_trace.specs.States.{InitialState, TableState, state_after}
 use Rattle.fib_model.specs.State.{Reclaims, MakesRoom, State}
 use Rattle.lpm_writer.specs.declared.pool.GroupPool.{GroupPool}
-use Rattle.lpm_writer.specs.Traced.{WithSteps, Loads, LoadsUntilStopped, Checks, by_writer, Goes, UnlinksNone, Stores, StoresOverLink, StoresAndCloses, state_of_traced}
+use Rattle.lpm_writer.specs.MemorySteps.{WithSteps, Loads, LoadsUntilStopped, Checks, by_writer, Goes, UnlinksNone, Stores, StoresOverLink, StoresAndCloses, state_of_traced}
 use Rattle.lpm_writer.specs.Take.{Takes, Finds}
 use Rattle.lpm_writer.specs.Steps.{StoreSameWord, since_opened, StoresOnce, IsStore, AreStopped, by_steps_from}
 use Rattle.lpm_writer.proofs.GivenUp.{Retires}

@@ -14,9 +14,9 @@ use Rattle.lpm_update.specs.declared.Did.{Did}
 use Rattle.lpm_update.specs.declared.Did.TheVariants.{First, Second, Unlinked, Done}
 use Rattle.lpm_update.specs.declared.update.Plan.{Plan}
 use Rattle.lpm_update.specs.Step.{Steps}
-use Rattle.lpm_update.specs.Tied.{IsTied}
+use Rattle.lpm_update.specs.GroupStates.{IsTied}
 use Rattle.lpm_update.specs.Update.{IsNextFirst, IsNextSecond, IsNextUnlink, IsOver, group_held}
-use Rattle.lpm_update.specs.Linked.{group_at}
+use Rattle.lpm_update.specs.BlockGroups.{group_at}
 use Rattle.lpm_update.specs.Laws.{HasCome}
 use Rattle.lpm_update.proofs.Groups.{last_none}
 use Rattle.lpm_update.proofs.Runs.{run_goes_on, next_store, next_first}
@@ -24,7 +24,7 @@ use Rattle.lpm_trace.specs.Progress.{Nothing, next_after_store}
 use Rattle.lpm_writer.specs.declared.pool.GroupPool.{GroupPool}
 use Rattle.fib_model.specs.State.{Unlinks}
 use Rattle.lpm_writer.specs.Limbo.{AreWaiting, tokens_of}
-use Rattle.lpm_writer.specs.Traced.{WithSteps, UnlinksNone, by_writer}
+use Rattle.lpm_writer.specs.MemorySteps.{WithSteps, UnlinksNone, by_writer}
 use Rattle.lpm_writer.specs.GroupsMatch.{HasNothingDue, GroupsMatchSteps}
 use Rattle.lpm_writer.specs.GroupToFill.{group_to_fill, HasWidths}
 use Rattle.lpm_writer.proofs.GivenUp.{HasUnlinked, HasRetired, Retires}

@@ -13,7 +13,7 @@ use Rattle.lpm_trace.specs.States.{InitialState, TableState, Status, state_after
 use Rattle.lpm_trace.specs.Progress.{WriterProgress, Check, progress_after_bump, IsLoadDue, IsBumped as MayBump}
 use Rattle.lpm_trace.specs.Writer.{progress_after, IsWritten, MayStep}
 use Rattle.lpm_writer.specs.declared.pool.GroupPool.{GroupPool}
-use Rattle.lpm_writer.specs.Traced.{Checks}
+use Rattle.lpm_writer.specs.MemorySteps.{Checks}
 use Rattle.lpm_writer.specs.GroupsMatch.{AreRetired, HasNothingDue, MayLoadCounters, Remembers}
 use Rattle.lpm_writer.specs.Rest.{IsBetween, IsResting}
 use Rattle.lpm_writer.specs.Commands.{IsAwaited, IsWaiting}

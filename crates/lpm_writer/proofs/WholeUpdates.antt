@@ -4,7 +4,7 @@ use Rattle.std.proofs.lemmas.List.Elements.{All-nil}
 use Rattle.lpm_limits.specs.declared.config.Config.{Config}
 use Rattle.lpm_rules.specs.RuleMap.{RuleMap}
 use Rattle.lpm_update.specs.declared.update.Plan.{Plan}
-use Rattle.lpm_update.specs.Linked.{IsTable}
+use Rattle.lpm_update.specs.BlockGroups.{IsTable}
 use Rattle.lpm_update.specs.Represents.{IsBegun}
 use Rattle.lpm_update.proofs.Runs.{run_begins}
 use Rattle.lpm_trace.specs.declared.step.RuleChange.{RuleChange}
@@ -14,7 +14,7 @@ use Rattle.lpm_trace.specs.States.{InitialState, TableState, state_after, addres
 use Rattle.lpm_trace.specs.Writer.{MayStep}
 use Rattle.lpm_trace.proofs.Versions.{with_at-same, with_at-other}
 use Rattle.lpm_writer.specs.declared.pool.GroupPool.{GroupPool}
-use Rattle.lpm_writer.specs.Traced.{by_writer}
+use Rattle.lpm_writer.specs.MemorySteps.{by_writer}
 use Rattle.lpm_writer.specs.GroupsMatch.{GroupsMatchSteps}
 use Rattle.lpm_writer.specs.GroupToFill.{HasWidths, IsTakenBy, group_to_fill}
 use Rattle.lpm_writer.specs.Rest.{IsBetween, Changes}

@@ -4,7 +4,7 @@ use Rattle.lpm_trace.specs.declared.step.WriterStep.{WriterStep}
 use Rattle.lpm_trace.specs.States.{InitialState, state_after}
 use Rattle.fib_model.specs.State.{State}
 use Rattle.lpm_writer.specs.declared.control.ControlState.{ControlState}
-use Rattle.lpm_writer.specs.Traced.{WithSteps, Checks}
+use Rattle.lpm_writer.specs.MemorySteps.{WithSteps, Checks}
 use Rattle.lpm_writer.specs.Rest.{IsResting, state_of}
 use Rattle.lpm_groups.specs.declared.GroupState.{GroupState}
 use Rattle.lpm_limits.specs.declared.busy.Busy.{Busy}

@@ -3,7 +3,7 @@
 use Rattle.std.specs.Prelude.{ℕ, ◌≡◌, ◌⊎◌, List, Option, Some, None}
 use Rattle.lpm_update.specs.declared.update.Plan.{Plan}
 use Rattle.lpm_update.specs.declared.update.Plan.TheVariants.{Range, Link, Unlink, Flush}
-use Rattle.lpm_update.specs.Linked.{group_at}
+use Rattle.lpm_update.specs.BlockGroups.{group_at}
 use Rattle.lpm_trace.specs.States.{InitialState}
 
 -- the group, where the block has none

@@ -1,7 +1,7 @@
 -- Meaning: what a writer keeps of its groups is what its steps say (DPDK Programmer's Guide,
 -- "RCU Library", the defer queue of "LPM Library": a group waits with the token of its own unlinking).
 use Rattle.std.specs.Prelude.{ℕ, ◌≡◌, ◌≢◌, ◌<◌, ◌≤◌, ◌⊎◌, ⊤, true, List, [], ◌∷◌, Option, Some, None}
-use Rattle.defer_queue.specs.Retired.{IsAbsent}
+use Rattle.defer_queue.specs.RetiredGroups.{IsAbsent}
 use Rattle.lpm_groups.specs.declared.GroupState.{GroupState}
 use Rattle.lpm_groups.specs.States.{IsFreeAt, IsLinkedTo}
 use Rattle.lpm_trace.specs.declared.step.WriterStep.{WriterStep}

@@ -1,5 +1,5 @@
 pub mod Limbo
-pub mod Traced
+pub mod MemorySteps
 pub mod GroupsMatch
 pub mod Steps
 pub mod GroupToFill

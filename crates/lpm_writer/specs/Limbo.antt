@@ -3,9 +3,9 @@
 use Rattle.std.specs.Prelude.{ℕ, ◌≡◌, ◌+◌, ◌↔◌, List, [], ◌∷◌, length, map, slice_get}
 use Rattle.lpm_groups.specs.declared.GroupState.{GroupState}
 use Rattle.lpm_groups.specs.States.{IsLimboAt, IsLinkedTo, limbo_count, free_count, linked_count}
-use Rattle.lpm_update.specs.Tied.{SameLinksBut}
+use Rattle.lpm_update.specs.GroupStates.{SameLinksBut}
 use Rattle.defer_queue.specs.Limbo.{Limbo}
-use Rattle.defer_queue.specs.Retired.{IsAbsent}
+use Rattle.defer_queue.specs.RetiredGroups.{IsAbsent}
 
 -- the tokens of queued groups
 abbrev pub tokens_of : List (ℕ × ℕ) → List ℕ

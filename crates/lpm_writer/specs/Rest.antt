@@ -14,10 +14,10 @@ use Rattle.lpm_update.specs.Laws.{blank_words}
 use Rattle.lpm_bits.specs.Widths.{IsShape}
 use Rattle.lpm_limits.specs.Limits.{IsConfig}
 use Rattle.lpm_rules.specs.RuleMap.{RuleMap, RuleList}
-use Rattle.lpm_update.specs.Linked.{group_at}
+use Rattle.lpm_update.specs.BlockGroups.{group_at}
 use Rattle.lpm_update.specs.declared.update.Plan.{Plan}
 use Rattle.lpm_update.specs.Represents.{IsBegun, Represents, TurnsInto}
-use Rattle.lpm_update.specs.Tied.{IsTied, HasGroupRoom}
+use Rattle.lpm_update.specs.GroupStates.{IsTied, HasGroupRoom}
 use Rattle.lpm_update.specs.Update.{group_held}
 use Rattle.lpm_trace.specs.declared.step.RuleChange.{RuleChange}
 use Rattle.lpm_writer.specs.GroupToFill.{HasWidths, IsTakenBy, group_to_fill}

@@ -5,14 +5,14 @@ use Rattle.lpm_bits.specs.Network.{Network}
 use Rattle.lpm_groups.specs.declared.GroupState.{GroupState}
 use Rattle.lpm_groups.specs.States.{free_count, IsLeastFree, IsFreeAt, IsLinkedTo}
 use Rattle.lpm_limits.specs.declared.busy.Busy.{Busy}
-use Rattle.lpm_update.specs.Linked.{group_at}
+use Rattle.lpm_update.specs.BlockGroups.{group_at}
 use Rattle.fib_model.specs.State.{Transitions}
 use Rattle.lpm_trace.specs.declared.step.WriterStep.{WriterStep}
 use Rattle.lpm_trace.specs.States.{InitialState, state_after, IsUpdating}
 use Rattle.lpm_writer.specs.declared.pool.GroupPool.{GroupPool}
 use Rattle.lpm_writer.specs.Limbo.{IsTaken, tokens_of}
 use Rattle.lpm_writer.specs.GroupsMatch.{HasNothingDue, GroupsMatchSteps, OnlyChecks}
-use Rattle.lpm_writer.specs.Traced.{WithSteps}
+use Rattle.lpm_writer.specs.MemorySteps.{WithSteps}
 
 -- no update runs, and nothing is due
 pub record MayTake (c : InitialState) (steps : List WriterStep) (pool : GroupPool) : Type 0 where

@@ -6,7 +6,7 @@ ghost use Rattle.lpm_trace.specs.declared.step.WriterStep.{WriterStep};
 ghost use Rattle.lpm_trace.specs.States.{InitialState};
 ghost use Rattle.lpm_writer.specs.Rest.{Changes, IsDue};
 ghost use Rattle.lpm_writer.specs.Commands.{Rests};
-ghost use Rattle.lpm_writer.specs.Traced.{by_writer};
+ghost use Rattle.lpm_writer.specs.MemorySteps.{by_writer};
 
 use super::control::ControlState;
 use super::limbo::free_waiting;

@@ -2,9 +2,9 @@
 
 ghost use Rattle.std.specs.Prelude.{◌≡◌, ◌/◌, ◌^◌, ◌↔◌, OnErr, IsTrue, IsSome};
 ghost use Rattle.lpm_cells.specs.Words.{IsWords};
-ghost use Rattle.lpm_update.specs.Linked.{group_at};
+ghost use Rattle.lpm_update.specs.BlockGroups.{group_at};
 ghost use Rattle.lpm_writer.specs.Limbo.{IsQueued};
-ghost use Rattle.lpm_writer.specs.Traced.{by_writer};
+ghost use Rattle.lpm_writer.specs.MemorySteps.{by_writer};
 ghost use Rattle.lpm_writer.specs.Take.{LinksLeast, MayTakeAt, TakesAt, Finds, found_by};
 
 use super::GroupPool;

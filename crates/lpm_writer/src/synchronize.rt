@@ -6,7 +6,7 @@ ghost use Rattle.std.specs.Prelude.{◌≡◌, ◌+◌, ◌^◌, ◌<◌, ◌≤
 ghost use Rattle.lpm_trace.specs.declared.step.WriterStep.{WriterStep};
 ghost use Rattle.lpm_trace.specs.declared.step.WriterStep.TheVariants.{BumpToken};
 ghost use Rattle.lpm_trace.specs.States.{InitialState};
-ghost use Rattle.lpm_writer.specs.Traced.{Goes, Checks};
+ghost use Rattle.lpm_writer.specs.MemorySteps.{Goes, Checks};
 ghost use Rattle.lpm_writer.specs.Commands.{MayCommand, Rests, IsWaiting};
 
 use super::Exhausted;

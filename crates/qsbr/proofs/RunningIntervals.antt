@@ -1,7 +1,7 @@
 -- Reader intervals that run, before and after one more event.
 use Rattle.std.proofs.Common.{arith, ◌≡◌, ◌≢◌, ℕ, suc, ◌+◌, ◌<◌, ◌≤◌, ◌&&◌, inl, inr, Bool, true, false, cond, refl, ap, sym, ◌∙◌, subst, List, [], ◌∷◌, ◌++◌, length, Some, None, IsSomeAnd, nat_lt, length-append, ◌⊎◌, IsTrue, Option}
 use Rattle.std.proofs.lemmas.Bool.{cases_eq, cases_lt, cases_Bool, eq-eqb, ne_eqb, lt-ltb, le-ltb}
-use Rattle.qsbr.specs.Intervals.{event_at, count_before, Reporting, IsReaderInterval, IsRunningSince, IsHeldByWorker, IsTidy, Interval, Holds, EndsAt, RunsAfterOneMore, GracePeriodIsOver}
+use Rattle.qsbr.specs.Intervals.{event_at, count_before, ReportRule, IsReaderInterval, IsRunningSince, IsHeldByWorker, IsTidy, Interval, Holds, EndsAt, RunsAfterOneMore, GracePeriodIsOver}
 
 -- Events at their places, and events counted, before and after one more event.
 
@@ -129,16 +129,16 @@ before_next test (f ∷ E) place e at is = elim (cases_eq place (length E)) [
       omega (arith, rest, one)
 ]
 
-pub since_within : {T : Type 0} (b : Reporting T) (E : List T) (w s : ℕ) → IsRunningSince b E w s → s < length E
+pub since_within : {T : Type 0} (b : ReportRule T) (E : List T) (w s : ℕ) → IsRunningSince b E w s → s < length E
 since_within b E w s r = some_within (λ e. IsTrue (b.begins w e)) E s r.begins
 
-pub since_new : {T : Type 0} (b : Reporting T) (e : T) (E : List T) (w : ℕ) → IsTrue (b.begins w e) → IsRunningSince b (e ∷ E) w (length E)
+pub since_new : {T : Type 0} (b : ReportRule T) (e : T) (E : List T) (w : ℕ) → IsTrue (b.begins w e) → IsRunningSince b (e ∷ E) w (length E)
 since_new b e E w begins = record {
   begins = subst (λ o. IsSomeAnd o (λ e. IsTrue (b.begins w e))) (sym (at_new e E)) begins;
   ends = λ place after end. let within = some_within (λ e. IsTrue (b.ends w e)) (e ∷ E) place end in absurd (omega (arith, within, after));
 }
 
-pub since_kept : {T : Type 0} (b : Reporting T) (e : T) (E : List T) (w s : ℕ) → ¬ IsTrue (b.ends w e) → IsRunningSince b E w s → IsRunningSince b (e ∷ E) w s
+pub since_kept : {T : Type 0} (b : ReportRule T) (e : T) (E : List T) (w s : ℕ) → ¬ IsTrue (b.ends w e) → IsRunningSince b E w s → IsRunningSince b (e ∷ E) w s
 since_kept b e E w s lasts r = record {
   begins = some_newer (λ e. IsTrue (b.begins w e)) e E s r.begins;
   ends = λ place after end. elim (cases_eq place (length E)) [
@@ -147,26 +147,26 @@ since_kept b e E w s lasts r = record {
   ];
 }
 
-since_older : {T : Type 0} (b : Reporting T) (e : T) (E : List T) (w s : ℕ) → s ≢ length E → IsRunningSince b (e ∷ E) w s → IsRunningSince b E w s
+since_older : {T : Type 0} (b : ReportRule T) (e : T) (E : List T) (w s : ℕ) → s ≢ length E → IsRunningSince b (e ∷ E) w s → IsRunningSince b E w s
 since_older b e E w s n r = record {
   begins = some_older (λ e. IsTrue (b.begins w e)) e E s n r.begins;
   ends = λ place after end. r.ends place after (some_newer (λ e. IsTrue (b.ends w e)) e E place end);
 }
 
-since_lasts : {T : Type 0} (b : Reporting T) (e : T) (E : List T) (w s : ℕ) → s ≢ length E → IsRunningSince b (e ∷ E) w s → ¬ IsTrue (b.ends w e)
+since_lasts : {T : Type 0} (b : ReportRule T) (e : T) (E : List T) (w s : ℕ) → s ≢ length E → IsRunningSince b (e ∷ E) w s → ¬ IsTrue (b.ends w e)
 since_lasts b e E w s n r end =
     let within = since_within b (e ∷ E) w s r in
     r.ends (length E) (omega (arith, within, n)) (subst (λ o. IsSomeAnd o (λ e. IsTrue (b.ends w e))) (sym (at_new e E)) end)
 
 -- an interval that runs began with the newest event, or ran before it and isn't ended by it
-pub since_cases : {T : Type 0} (b : Reporting T) (e : T) (E : List T) (w s : ℕ) → IsRunningSince b (e ∷ E) w s
+pub since_cases : {T : Type 0} (b : ReportRule T) (e : T) (E : List T) (w s : ℕ) → IsRunningSince b (e ∷ E) w s
     → ((s ≡ length E) × IsTrue (b.begins w e)) ⊎ (IsRunningSince b E w s × ¬ IsTrue (b.ends w e))
 since_cases b e E w s r = elim (cases_eq s (length E)) [
   | inl is ↦ inl (is, some_newest (λ e. IsTrue (b.begins w e)) e E s is r.begins)
   | inr n ↦ inr (since_older b e E w s n r, since_lasts b e E w s n r)
 ]
 
-since_from : {T : Type 0} (b : Reporting T) (e : T) (E : List T) (w s : ℕ) → ((s ≡ length E) × IsTrue (b.begins w e)) ⊎ (IsRunningSince b E w s × ¬ IsTrue (b.ends w e))
+since_from : {T : Type 0} (b : ReportRule T) (e : T) (E : List T) (w s : ℕ) → ((s ≡ length E) × IsTrue (b.begins w e)) ⊎ (IsRunningSince b E w s × ¬ IsTrue (b.ends w e))
     → IsRunningSince b (e ∷ E) w s
 since_from b e E w s (inl now) = subst (IsRunningSince b (e ∷ E) w) (sym now.0) (since_new b e E w now.1)
 since_from b e E w s (inr before) = since_kept b e E w s before.1 before.0
@@ -177,7 +177,7 @@ runs_after_one_more T b e E w s = (since_cases b e E w s, since_from b e E w s)
 -- ---- workers that take turns
 
 -- an event that begins no interval where one runs on, and none of a number past the workers
-pub tidy_more : {T : Type 0} (b : Reporting T) (workers : ℕ) (e : T) (E : List T) → IsTidy b workers E → ((w s : ℕ) → IsTrue (b.begins w e) → IsRunningSince b E w s → ¬ IsTrue (b.ends w e) → ⊥) → ((w : ℕ) → workers ≤ w → IsTrue (b.begins w e) → ⊥)
+pub tidy_more : {T : Type 0} (b : ReportRule T) (workers : ℕ) (e : T) (E : List T) → IsTidy b workers E → ((w s : ℕ) → IsTrue (b.begins w e) → IsRunningSince b E w s → ¬ IsTrue (b.ends w e) → ⊥) → ((w : ℕ) → workers ≤ w → IsTrue (b.begins w e) → ⊥)
     → IsTidy b workers (e ∷ E)
 tidy_more b workers e E tidy fresh others = record {
   one = λ w s t r q. elim (since_cases b e E w s r) [
@@ -198,15 +198,15 @@ tidy_more b workers e E tidy fresh others = record {
 
 -- ---- who holds a place
 
-held_start_of : {T : Type 0} (b : Reporting T) (E : List T) (place w v start : ℕ) (end : Option ℕ) → v ≡ w → end ≡ None → IsReaderInterval b E (record { worker = v; start = start; end = end }) → start < place
+held_start_of : {T : Type 0} (b : ReportRule T) (E : List T) (place w v start : ℕ) (end : Option ℕ) → v ≡ w → end ≡ None → IsReaderInterval b E (record { worker = v; start = start; end = end }) → start < place
     → (s : ℕ) × IsRunningSince b E w s × (s < place)
 held_start_of b E place w v start end ew ee r below =
     (start, subst (λ o. IsReaderInterval b E (record { worker = w; start = start; end = o })) ee (subst (λ u. IsReaderInterval b E (record { worker = u; start = start; end = end })) ew r), below)
 
-pub held_start : {T : Type 0} (b : Reporting T) (E : List T) (place w : ℕ) → IsHeldByWorker b E place w → (s : ℕ) × IsRunningSince b E w s × (s < place)
+pub held_start : {T : Type 0} (b : ReportRule T) (E : List T) (place w : ℕ) → IsHeldByWorker b E place w → (s : ℕ) × IsRunningSince b E w s × (s < place)
 held_start b E place w h = held_start_of b E place w h.0.worker h.0.start h.0.end h.1 h.2 h.3 h.4.0
 
-pub start_held : {T : Type 0} (b : Reporting T) (E : List T) (place w s : ℕ) → IsRunningSince b E w s → s < place → IsHeldByWorker b E place w
+pub start_held : {T : Type 0} (b : ReportRule T) (E : List T) (place w s : ℕ) → IsRunningSince b E w s → s < place → IsHeldByWorker b E place w
 start_held b E place w s r below = (record { worker = w; start = s; end = None }, refl, refl, r, (below, tt))
 
 -- An interval that holds two places ran between them.
@@ -216,13 +216,13 @@ some_beneath : {T : Type 0} (P : T → Type 0) (newer older : List T) (place : �
 some_beneath P newer older place some = subst (λ o. IsSomeAnd o P) (sym (at_older newer older place (some_within P older place some))) some
 
 -- an interval that holds a later place has no end before it
-not_ended : {T : Type 0} (b : Reporting T) (E : List T) (w start : ℕ) (end : Option ℕ) (later : ℕ) → IsReaderInterval b E (record { worker = w; start = start; end = end })
+not_ended : {T : Type 0} (b : ReportRule T) (E : List T) (w start : ℕ) (end : Option ℕ) (later : ℕ) → IsReaderInterval b E (record { worker = w; start = start; end = end })
     → Holds (record { worker = w; start = start; end = end }) later → (place : ℕ) → start < place → place < later → ¬ EndsAt b E w place
 not_ended b E w start None later r holds place after before = r.ends place after
 not_ended b E w start (Some end) later r holds place after before = let stop = holds.1 in r.ends.2 place after (omega (arith, before, stop))
 
 -- an interval that holds a later place ran among the older events
-ran : {T : Type 0} (b : Reporting T) (newer older : List T) (i : Interval) (later : ℕ) → i.start < length older → length older ≤ later → IsReaderInterval b (newer ++ older) i → Holds i later
+ran : {T : Type 0} (b : ReportRule T) (newer older : List T) (i : Interval) (later : ℕ) → i.start < length older → length older ≤ later → IsReaderInterval b (newer ++ older) i → Holds i later
     → IsRunningSince b older i.worker i.start
 ran b newer older i later low high r holds = record {
   begins = subst (λ o. IsSomeAnd o (λ e. IsTrue (b.begins i.worker e))) (at_older newer older i.start low) r.begins;

@@ -7,7 +7,7 @@ use Rattle.lpm_limits.specs.declared.refusal.Refusal.TheVariants.{NoSuchWorker, 
 use Rattle.lpm_rules.specs.RuleMap.{RuleMap}
 use Rattle.shared_fib.specs.Passes.{PassState, IsPassOf, IsFullBench, IsBenchOf, IsPutBack}
 use Rattle.shared_fib.specs.RunningTable.{Identity, WriterState, initial_writer}
-use Rattle.shared_fib.proofs.Seated.{on_err_then}
+use Rattle.shared_fib.proofs.SeatMemory.{on_err_then}
 use Rattle.saxiko.specs.Owners.{OwnerState, Registers}
 
 -- what was taken off a place and put back stands there as before

@@ -13,7 +13,7 @@ ghost use Rattle.lpm_trace.specs.declared.step.WorkerStep.TheVariants.{MeetWrite
 ghost use Rattle.lpm_trace.specs.Laws.{IsChecked};
 ghost use Rattle.lpm_writer.specs.Rest.{blank_state};
 ghost use Rattle.lpm_writer.specs.Steps.{Synchronizes};
-ghost use Rattle.shared_fib.specs.Freed.{TakesLeast, FreesChecked};
+ghost use Rattle.shared_fib.specs.FreedGroups.{TakesLeast, FreesChecked};
 ghost use Rattle.shared_words.specs.Rule.{IsLater};
 ghost use Rattle.shared_fib.specs.Passes.{IsBenchOf, IsFullBench, IsPutBack, Makes};
 ghost use Rattle.shared_fib.specs.RunningTable.{IsAtRest, by_steps, initial_writer, passed_of, initial_state, steps_of, token_of};

@@ -1,7 +1,7 @@
 -- The handles of C: what each holds.
 use Rattle.std.proofs.Common.{refl}
 use Rattle.saxiko_c.proofs.HandleSteps.{Form}
-use Rattle.saxiko_c.specs.Owned.{reader_row, table_row, writer_row}
+use Rattle.saxiko_c.specs.OwnedTables.{reader_row, table_row, writer_row}
 use Rattle.saxiko_c.specs.contracts.handles.SaxikoReader as reader
 use Rattle.saxiko_c.specs.contracts.handles.SaxikoTable as table
 use Rattle.saxiko_c.specs.contracts.handles.SaxikoWriter as writer

@@ -14,7 +14,7 @@ use denote.RawPtr.{Ptr}
 use Rattle.core.specs.declared.option.Option.{Option}
 use Rattle.core.specs.declared.option.Option.TheVariants.{None, Some}
 use Rattle.std_heap.specs.declared.Global.{Global}
-use Rattle.saxiko_c.specs.Owned.{handle_owns}
+use Rattle.saxiko_c.specs.OwnedTables.{handle_owns}
 use Rattle.saxiko_c.proofs.HandleSteps.{Form, the_row, the_type}
 
 keyless : (R : RattleType) → IsSend R → (a : Global) (p : Ptr) (flag : Bool) (held : Option R.Denot) → Keyless (handle_owns R a p flag held)

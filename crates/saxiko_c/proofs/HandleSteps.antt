@@ -49,7 +49,7 @@ use Rattle.core.specs.declared.option.Option.TheVariants.{None, Some}
 use Rattle.std.proofs.raw_atomic.Walks.{proved_at, leaves}
 use Rattle.std_heap.specs.declared.Global.{Global}
 use Rattle.std_heap.specs.contracts.GlobalAllocator.TheImpl.{ghosts}
-use Rattle.saxiko_c.specs.Owned.{handle_owns}
+use Rattle.saxiko_c.specs.OwnedTables.{handle_owns}
 use Rattle.saxiko_c.specs.contracts.loose.Loose as loose
 use Rattle.core.specs.contracts.option.Option as option
 use Rattle.std_heap.specs.contracts.Global as heap

@@ -7,7 +7,7 @@ use Rattle.lpm_limits.specs.declared.refusal.Refusal.{Refusal}
 use Rattle.fib_model.specs.Counters.{counter_transitions}
 use Rattle.fib_model.specs.Outcomes.{Adds}
 use Rattle.fib.specs.Fib.{FibState}
-use Rattle.shared_fib.specs.Freed.{TakesLeast}
+use Rattle.shared_fib.specs.FreedGroups.{TakesLeast}
 use Rattle.shared_fib.specs.RunningTable.{by_steps, hop_or}
 use Rattle.saxiko_c.specs.RunningTable.{OwnerState, Changes}
 use Rattle.saxiko_c.specs.Status.{invalid, add_status}

@@ -1,7 +1,7 @@
 pub mod Grace
 pub mod Insert
 pub mod Loads
-pub mod Owned
+pub mod OwnedTables
 pub mod RunningTable
 pub mod Stages
 pub mod Status

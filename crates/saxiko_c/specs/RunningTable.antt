@@ -16,7 +16,7 @@ use Rattle.fib_model.specs.Outcomes.{groups_in_use}
 use Rattle.lpm_trace.specs.declared.step.WorkerStep.{WorkerStep}
 use Rattle.lpm_trace.specs.declared.step.WorkerStep.TheVariants.{LoadOnline, StoreOnline, LoadQuiescent, StoreQuiescent, StoreOffline}
 use Rattle.lpm_writer.specs.Rest.{blank_state}
-use Rattle.shared_fib.specs.Freed.{TakesLeast, FreesChecked}
+use Rattle.shared_fib.specs.FreedGroups.{TakesLeast, FreesChecked}
 use Rattle.shared_fib.specs.Bursts.{LooksUpBurst}
 use Rattle.shared_words.specs.Rule.{IsLater}
 use Rattle.saxiko_c.specs.Status.{OpensIt, success, no_memory, busy, invalid, not_permitted, already, add_status, status_of}

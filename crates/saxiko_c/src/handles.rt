@@ -4,7 +4,7 @@ ghost use Rattle.std.specs.Prelude.{◌≡◌, Option, Some};
 ghost use Rattle.fib.specs.Fib.{FibState};
 ghost use Rattle.shared_fib.specs.Passes.{PassState};
 ghost use Rattle.saxiko_c.specs.RunningTable.{OwnerState};
-ghost use Rattle.saxiko_c.specs.Owned.{coded_reader_kept, coded_table_kept, coded_writer_kept, handle_owns, reader_row, table_row, writer_row};
+ghost use Rattle.saxiko_c.specs.OwnedTables.{coded_reader_kept, coded_table_kept, coded_writer_kept, handle_owns, reader_row, table_row, writer_row};
 
 use crate::handle::Handle;
 use crate::loose::Loose;

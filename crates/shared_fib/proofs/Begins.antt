@@ -19,9 +19,9 @@ use Rattle.std.proofs.lemmas.Option.{none-some, slice_get-map}
 use Rattle.atomic_table.specs.Seated.{TableId}
 use Rattle.lpm_groups.specs.declared.GroupState.TheVariants.{Free, Linked as LinkedTo, Limbo}
 use Rattle.lpm_limits.specs.declared.config.Config.{Config}
-use Rattle.lpm_update.specs.Linked.{group_at}
+use Rattle.lpm_update.specs.BlockGroups.{group_at}
 use Rattle.lpm_update.specs.Represents.{Represents}
-use Rattle.lpm_update.specs.Tied.{IsTied, HasGroupRoom}
+use Rattle.lpm_update.specs.GroupStates.{IsTied, HasGroupRoom}
 use Rattle.defer_queue.specs.Limbo.{Limbo as Queue}
 use Rattle.lpm_writer.specs.declared.plain_memory.PlainMemory.{PlainMemory}
 use Rattle.lpm_writer.specs.declared.control.ControlState.{ControlState}
@@ -33,7 +33,7 @@ use Rattle.shared_words.specs.declared.view.View.{View}
 use Rattle.shared_words.specs.Rule.{writer_view}
 use Rattle.shared_words.specs.Seats.{IsOf, WordsAt}
 use Rattle.shared_fib.specs.declared.initial_table.InitialTable.{InitialTable}
-use Rattle.shared_fib.specs.Loaded.{IsLoaded}
+use Rattle.shared_fib.specs.LoadedTable.{IsLoaded}
 use Rattle.shared_fib.specs.RunningTable.{Identity, WriterState, IsSoundWriter, initial_data_of, initial_writer}
 use Rattle.shared_fib.proofs.Live.{live_settled, live_rests}
 

@@ -29,16 +29,16 @@ use Rattle.lpm_writer.specs.declared.control.ControlState.{ControlState}
 use Rattle.lpm_writer.specs.Rest.{IsResting, state_of}
 use Rattle.lpm_writer.specs.Commands.{Commands, Rests}
 use Rattle.lpm_writer.specs.Take.{LinksLeast}
-use Rattle.lpm_writer.specs.Traced.{WithSteps, by_writer}
+use Rattle.lpm_writer.specs.MemorySteps.{WithSteps, by_writer}
 use Rattle.lpm_writer.proofs.StepsAlone.{adds_alone, deletes_alone, flushes_alone, frees_alone}
 use Rattle.shared_words.specs.Layout.{InitialData, initial_state_of}
 use Rattle.shared_words.specs.Seats.{AreChecked, AreLawful}
 use Rattle.shared_fib.specs.Lent.{LentSeat, SharedDid, state_of_lent}
 use Rattle.shared_fib.specs.RunningTable.{Identity, IsSoundWriter, WriterState, by_steps, state_by, steps_of}
-use Rattle.shared_fib.specs.Freed.{FreesChecked, TakesLeast}
-use Rattle.shared_fib.proofs.Checked.{frees_checked}
-use Rattle.shared_fib.proofs.Freed.{Leaves, adds_leave, deletes_leave, flushes_leave, reclaims_leave}
-use Rattle.shared_fib.proofs.Seated.{Kept, kept, unseeing, does_in, stays, rests_after}
+use Rattle.shared_fib.specs.FreedGroups.{FreesChecked, TakesLeast}
+use Rattle.shared_fib.proofs.TokenChecks.{frees_checked}
+use Rattle.shared_fib.proofs.FreedGroups.{Leaves, adds_leave, deletes_leave, flushes_leave, reclaims_leave}
+use Rattle.shared_fib.proofs.SeatMemory.{Kept, kept, unseeing, does_in, stays, rests_after}
 use Rattle.shared_fib.proofs.LeastGroup.{takes_least}
 use Rattle.defer_queue.specs.Reclaims as queue
 

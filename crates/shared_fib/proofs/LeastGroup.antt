@@ -14,7 +14,7 @@ use Rattle.lpm_groups.specs.declared.GroupState.TheVariants.{Free, Linked, Limbo
 use Rattle.lpm_groups.specs.States.{IsLinkedTo, IsLimboAt, limbo_count}
 use Rattle.lpm_groups.proofs.Marks.{Releases-set}
 use Rattle.lpm_update.proofs.Unlinks.{some_group}
-use Rattle.defer_queue.specs.Retired.{IsAbsent}
+use Rattle.defer_queue.specs.RetiredGroups.{IsAbsent}
 use Rattle.lpm_limits.specs.declared.config.Config.{Config}
 use Rattle.lpm_rules.specs.RuleMap.{RuleList}
 use Rattle.lpm_trace.specs.declared.step.WriterStep.{WriterStep}
@@ -29,7 +29,7 @@ use Rattle.lpm_writer.specs.Take.{HasNoneFreeBelow, LinksLeast}
 use Rattle.lpm_writer.specs.Rest.{IsResting, state_of}
 use Rattle.lpm_writer.proofs.LimboItems.{waiting_set, is_freed}
 use Rattle.shared_words.specs.Layout.{InitialData, initial_state_of}
-use Rattle.shared_fib.specs.Freed.{HasGroup, IsGivenUp, IsOccupied, TakesLeast}
+use Rattle.shared_fib.specs.FreedGroups.{HasGroup, IsGivenUp, IsOccupied, TakesLeast}
 use Rattle.lpm_writer.proofs.Initial.{no_group}
 use Rattle.lpm_writer.proofs.Reclaims.{linked_not_retired}
 use Rattle.lpm_writer.proofs.AfterStore.{retired_token}

@@ -11,9 +11,9 @@ use Rattle.lpm_groups.specs.States.{limbo_count}
 use Rattle.lpm_limits.specs.Limits.{IsConfig}
 use Rattle.lpm_limits.specs.declared.config.Config.{Config}
 use Rattle.lpm_rules.specs.RuleMap.{RuleMap}
-use Rattle.lpm_update.specs.Linked.{group_at}
+use Rattle.lpm_update.specs.BlockGroups.{group_at}
 use Rattle.lpm_update.specs.Represents.{Represents}
-use Rattle.lpm_update.specs.Tied.{IsTied, HasGroupRoom}
+use Rattle.lpm_update.specs.GroupStates.{IsTied, HasGroupRoom}
 use Rattle.lpm_trace.specs.States.{Status, Retired, IsSettled}
 use Rattle.lpm_writer.specs.Rest.{IsResting}
 use Rattle.lpm_writer.proofs.Reclaims.{linked_not_retired}

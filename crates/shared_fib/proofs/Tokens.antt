@@ -9,7 +9,7 @@ use Rattle.lpm_trace.specs.Laws.{IsChecked}
 use Rattle.lpm_trace.proofs.Versions.{token_is}
 use Rattle.lpm_writer.specs.declared.control.ControlState.{ControlState}
 use Rattle.lpm_writer.specs.Steps.{Checks}
-use Rattle.lpm_writer.specs.Traced as traced
+use Rattle.lpm_writer.specs.MemorySteps as traced
 use Rattle.lpm_writer.specs.Rest.{IsResting}
 use Rattle.lpm_writer.specs.Commands.{IsWaiting}
 use Rattle.lpm_writer.specs.Limbo.{tokens_of}
@@ -20,8 +20,8 @@ use Rattle.shared_words.specs.Seats.{AreLawful, state_of_view, with_step}
 use Rattle.shared_fib.specs.Grace.{IsInGrace}
 use Rattle.shared_fib.specs.Lent.{LentSeat, SharedDid, passed_by, state_of_lent, token_by}
 use Rattle.shared_fib.specs.RunningTable.{IsSoundWriter, OnlySees}
-use Rattle.shared_fib.proofs.Seated.{either, on_err_then, on_ok_both, on_ok_then, seat_passed, seat_token_stays, Kept, kept, does_in, stays, only_sees, outcome_after, rests_after}
-use Rattle.shared_fib.proofs.Waited.{exhausted_by, queued_passed}
+use Rattle.shared_fib.proofs.SeatMemory.{either, on_err_then, on_ok_both, on_ok_then, seat_passed, seat_token_stays, Kept, kept, does_in, stays, only_sees, outcome_after, rests_after}
+use Rattle.shared_fib.proofs.Synchronizations.{exhausted_by, queued_passed}
 
 pub kept_by_check : (o : InitialData) (m z : LentSeat) (steps later : List WriterStep) (token : ℕ) (r : Result (Unit {0}) Busy)
     → traced.Checks does_in (initial_state_of o) (m, steps) token r (z, later) → kept z ≡ kept m

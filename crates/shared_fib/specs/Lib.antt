@@ -1,7 +1,7 @@
 pub mod RunningTable
-pub mod Freed
+pub mod FreedGroups
 pub mod Versions
-pub mod Loaded
+pub mod LoadedTable
 pub mod Laws
 pub mod Initial
 pub mod Lent

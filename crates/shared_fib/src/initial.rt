@@ -8,7 +8,7 @@ ghost use Rattle.fib_model.specs.Counters.{by_counters};
 ghost use Rattle.fib.specs.Fib.{IsSound};
 ghost use Rattle.shared_fib.specs.Initial.{initial_data_by};
 ghost use Rattle.lpm_writer.specs.Rest.{blank_state};
-ghost use Rattle.shared_fib.specs.Loaded.{IsLoaded};
+ghost use Rattle.shared_fib.specs.LoadedTable.{IsLoaded};
 ghost use Rattle.shared_fib.specs.Passes.{IsFullBench};
 ghost use Rattle.shared_fib.specs.RunningTable.{initial_data_of, initial_writer, initial_state};
 
@@ -60,7 +60,7 @@ fn load<const FIRST: u32, const SECOND: u32>(
 
 /// What the writer of a running table keeps at first: the rules that were loaded are version 0, and no token
 /// has passed.
-fn first_control<const FIRST: u32, const SECOND: u32>(
+fn initial_control<const FIRST: u32, const SECOND: u32>(
     config: Config,
     queue: DeferQueue,
     initial: InitialTable<FIRST, SECOND>,
@@ -105,7 +105,7 @@ pub(crate) fn go_on<const FIRST: u32, const SECOND: u32>(
     let list = initial.words.as_slice();
     let (words, mut seat) = shared_words::open(alloc, list, initial.layout, &initial)?;
     let bench = Bench::full(alloc, &words, &mut seat)?;
-    let control = first_control(config, queue, initial);
+    let control = initial_control(config, queue, initial);
     Ok((SharedTable::new(words), Writer::new(control, seat), bench))
 }
 

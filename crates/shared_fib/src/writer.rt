@@ -3,7 +3,7 @@
 ghost use Rattle.std.specs.Prelude.{ℕ, ◌≡◌, List, take};
 ghost use Rattle.fib_model.specs.Outcomes.{Adds, Deletes, Flushes, Frees};
 ghost use Rattle.shared_words.specs.Rule.{IsLater};
-ghost use Rattle.shared_fib.specs.Freed.{FreesChecked, TakesLeast};
+ghost use Rattle.shared_fib.specs.FreedGroups.{FreesChecked, TakesLeast};
 ghost use Rattle.shared_fib.specs.RunningTable.{IsSoundWriter, by_steps, state_by, steps_of};
 
 use crate::{SharedMemory, SharedTable};

@@ -15,7 +15,7 @@ use Rattle.lpm_trace.proofs.Traces.{oldest_all}
 use Rattle.lpm_trace.proofs.Versions.{firsts_length}
 use Rattle.shared_words.specs.declared.view.View.{View}
 use Rattle.shared_words.specs.Layout.{InitialData, initial_state_of}
-use Rattle.shared_words.specs.Rule.{IsLater, Seating, Sits, IsViewOf, Holds, note_of, read_note, view_with_note}
+use Rattle.shared_words.specs.Rule.{IsLater, SeatPlan, Sits, IsViewOf, Holds, note_of, read_note, view_with_note}
 use Rattle.shared_words.specs.Seats.{IsSound, Gains, SeatCompares}
 use Rattle.shared_words.specs.Deeds.{IsReadOn, GainsAll, GainsAt, GoesOn, LoadsAround}
 use Rattle.shared_words.proofs.WriterRule.{later_none, seats_set}
@@ -177,19 +177,19 @@ module _ (o : InitialData) where
   }
 
   -- a note of what a view of the trace has seen
-  note_is : (steps : List TraceStep) (seating : Seating) (seat : ℕ) (v : View)
+  note_is : (steps : List TraceStep) (seating : SeatPlan) (seat : ℕ) (v : View)
       → IsViewOf o steps seating seat v → (j : ℕ) → IsViewOf o steps seating j (note_of v)
   note_is steps seating seat v is j = record { sits = tt; writer_steps = is.writer_steps; heard = later_none (writes steps) }
 
   -- what a seat has heard changes nothing else of it
-  heard_sits : (steps : List TraceStep) (seating : Seating) (seat : ℕ) (v : View) (told : List WriterStep)
+  heard_sits : (steps : List TraceStep) (seating : SeatPlan) (seat : ℕ) (v : View) (told : List WriterStep)
       → (role : Role) → Sits o steps seating seat v role
       → Sits o steps seating seat (record v { heard = told }) role
   heard_sits steps seating seat v told Writer h = h
   heard_sits steps seating seat v told (Worker k) h = h
   heard_sits steps seating seat v told Note h = tt
 
-  heard_is : (steps : List TraceStep) (seating : Seating) (seat : ℕ) (v : View) (told : List WriterStep)
+  heard_is : (steps : List TraceStep) (seating : SeatPlan) (seat : ℕ) (v : View) (told : List WriterStep)
       → IsViewOf o steps seating seat v → IsLater told (writes steps)
       → IsViewOf o steps seating seat (record v { heard = told })
   heard_is steps seating seat v told is later = record {

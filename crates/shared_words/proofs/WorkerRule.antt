@@ -21,7 +21,7 @@ use Rattle.shared_words.specs.declared.view.Role.{Role}
 use Rattle.shared_words.specs.declared.view.Role.TheVariants.{Writer, Worker, Note}
 use Rattle.shared_words.specs.declared.view.View.{View}
 use Rattle.shared_words.specs.Layout.{InitialData, initial_state_of, half, first_at, second_at, sequence_at, token_at, counter_at, IsLaidOut}
-use Rattle.shared_words.specs.Rule.{Seating, Sits, IsViewOf, Holds}
+use Rattle.shared_words.specs.Rule.{SeatPlan, Sits, IsViewOf, Holds}
 use Rattle.shared_words.specs.Seats.{IsSound, Gains, WorkerGains}
 use Rattle.shared_words.proofs.WordPlaces.{lays_same}
 use Rattle.shared_words.proofs.WriterRule.{seats_set}
@@ -95,7 +95,7 @@ module _ (o : InitialData) where
   -- ---- the views
 
   -- another seat, after a step of worker k at the seat `id`
-  bystander : (steps : List TraceStep) (seating : Seating) (k id : ℕ) (r : WorkerStep)
+  bystander : (steps : List TraceStep) (seating : SeatPlan) (k id : ℕ) (r : WorkerStep)
       → id ≡ seating.seat_of k → (j : ℕ) (u : View) → j ≢ id → (role : Role)
       → Sits o steps seating j u role → Sits o (ByWorker k r ∷ steps) seating j u role
   bystander steps seating k id r mine j u other Writer h = h

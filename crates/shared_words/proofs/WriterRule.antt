@@ -22,7 +22,7 @@ use Rattle.shared_words.specs.declared.view.Role.{Role}
 use Rattle.shared_words.specs.declared.view.Role.TheVariants.{Writer, Worker, Note}
 use Rattle.shared_words.specs.declared.view.View.{View}
 use Rattle.shared_words.specs.Layout.{InitialData, initial_state_of, IsLaidOut, half, first_at, second_at, sequence_at, token_at, counter_at, initial_words}
-use Rattle.shared_words.specs.Rule.{IsLater, Seating, Sits, IsViewOf, Holds, writer_view, worker_view, with_one_more}
+use Rattle.shared_words.specs.Rule.{IsLater, SeatPlan, Sits, IsViewOf, Holds, writer_view, worker_view, with_one_more}
 use Rattle.shared_words.specs.Seats.{AreLawful, WriterGains, IsFoundAt, WriterLooks, with_step, state_of_view, MayFollow}
 use Rattle.shared_words.proofs.WordPlaces.{firsts_length, seconds_length, lays_first, lays_second, lays_sequence, lays_token, lays_none, lays_opening}
 
@@ -62,7 +62,7 @@ seats_set K views me w mine others j u there = elim (at_set views me j w u there
 ]
 
 -- another seat, after a step of the writer
-aside : (o : InitialData) (steps : List TraceStep) (seating : Seating) (me : ℕ) (step : WriterStep)
+aside : (o : InitialData) (steps : List TraceStep) (seating : SeatPlan) (me : ℕ) (step : WriterStep)
     → me ≡ seating.writer → (j : ℕ) (u : View) → j ≢ me → (r : Role)
     → Sits o steps seating j u r → Sits o (ByWriter step ∷ steps) seating j u r
 aside o steps seating me step mine j u other Writer h = absurd (other (h.0 ∙ sym mine))
@@ -308,7 +308,7 @@ module _ (o : InitialData) where
       elim (at_end xs a b j e) [ inl h ↦ inl h | inr h ↦ inr (ap suc h.0, h.1) ]
 
   -- the seats, where the next worker's is at place x
-  abbrev seated : Seating → ℕ → Seating
+  abbrev seated : SeatPlan → ℕ → SeatPlan
   seated seating x = record {
     writer = seating.writer;
     made = seating.made + 1;
@@ -316,7 +316,7 @@ module _ (o : InitialData) where
   }
 
   -- another seat, once the next worker's is there
-  one_more : (steps : List TraceStep) (seating : Seating) (x me : ℕ) → me ≡ seating.writer
+  one_more : (steps : List TraceStep) (seating : SeatPlan) (x me : ℕ) → me ≡ seating.writer
       → (j : ℕ) (u : View) → j ≢ me → (r : Role)
       → Sits o steps seating j u r → Sits o steps (seated seating x) j u r
   one_more steps seating x me mine j u other Writer h = absurd (other (h.0 ∙ sym mine))
@@ -339,7 +339,7 @@ module _ (o : InitialData) where
       let right : View = worker_view v in
       let views : List View = slice_set s.views id left in
       let x : ℕ = length views in
-      let now : Seating = seated h.seating x in
+      let now : SeatPlan = seated h.seating x in
       let K : ℕ → View → Type 0 = IsViewOf o steps now in
       let writer_sits : Sits o steps now id left Writer =
       (mine.0, mine.1, mine.2, ap (λ (k : ℕ). k + 1) is_made) in
@@ -378,7 +378,7 @@ module _ (o : InitialData) where
 
   -- ---- the table at the start
 
-  abbrev alone : Seating
+  abbrev alone : SeatPlan
   alone = record { writer = 0; made = 0; seat_of = λ k. 0 }
 
   first_seat : (j : ℕ) (u : View) → get_elem? (writer_view o ∷ []) j ≡ some u → IsViewOf o [] alone j u

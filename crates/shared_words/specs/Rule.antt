@@ -19,13 +19,13 @@ abbrev pub IsLater : List WriterStep → List WriterStep → Type 0
 IsLater old now = (new : List WriterStep) × (now ≡ new ++ old)
 
 -- who sits where: the writer's seat, how many workers' seats were made, and the seat of each
-pub record Seating : Type 0 where
+pub record SeatPlan : Type 0 where
   pub writer : ℕ
   pub made : ℕ
   pub seat_of : ℕ → ℕ
 
 -- what a seat knows is of the trace: the writer knows all its steps, and a worker all its own
-abbrev pub Sits : InitialData → List TraceStep → Seating → ℕ → View → Role → Type 0
+abbrev pub Sits : InitialData → List TraceStep → SeatPlan → ℕ → View → Role → Type 0
 Sits o steps seating seat v Writer = (seat ≡ seating.writer) × (v.initial ≡ o)
     × (v.writer_steps ≡ writes steps) × (v.made ≡ seating.made)
 Sits o steps seating seat v (Worker k) = (seat ≡ seating.seat_of k) × (v.initial ≡ o)
@@ -33,7 +33,7 @@ Sits o steps seating seat v (Worker k) = (seat ≡ seating.seat_of k) × (v.init
 Sits o steps seating seat v Note = ⊤
 
 -- and what it has seen and heard of is a beginning of the writer's steps
-pub record IsViewOf (o : InitialData) (steps : List TraceStep) (seating : Seating) (seat : ℕ) (v : View)
+pub record IsViewOf (o : InitialData) (steps : List TraceStep) (seating : SeatPlan) (seat : ℕ) (v : View)
     : Type 0 where
   pub sits : Sits o steps seating seat v v.role
   pub writer_steps : IsLater v.writer_steps (writes steps)
@@ -42,7 +42,7 @@ pub record IsViewOf (o : InitialData) (steps : List TraceStep) (seating : Seatin
 -- there is a trace after which the words are these, and which has the steps of each seat
 pub record Holds (o : InitialData) (s : State (Unit {0}) View) : Type 0 where
   pub steps : List TraceStep
-  pub seating : Seating
+  pub seating : SeatPlan
   pub settled : IsSettled (initial_state_of o)
   pub trace : IsTrace (initial_state_of o) steps
   pub words : IsLaidOut o s.words (after (initial_state_of o) steps)

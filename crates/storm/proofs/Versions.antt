@@ -17,7 +17,7 @@ use Rattle.fib_model.specs.declared.orders.Outcome.{Outcome}
 use Rattle.audit.specs.Wrong.{AreWrong, IsOfSomeVersion, version_of, version_from}
 use Rattle.storm.specs.Writer.{addition_of, change_by, changes_by, IsForWriter, HasVersions, by_own_steps}
 use Rattle.lpm_limits.specs.declared.config.Config.{Config}
-use Rattle.fib_model.specs.State.{State, Keeping}
+use Rattle.fib_model.specs.State.{State, ReaderModel}
 use Rattle.fib_model.specs.Outcomes.{Does}
 use Rattle.lpm_trace.specs.declared.step.WriterStep.{WriterStep}
 use Rattle.shared_words.specs.Rule.{IsLater}
@@ -146,7 +146,7 @@ flat_more g (x ∷ xs) y =
 
 -- The writer's steps go on from command to command.
 
-pub order_later : (k : Keeping (List WriterStep)) → GoOn k.changes → (f g : ℕ) (c : Config) (s z : State (List WriterStep))
+pub order_later : (k : ReaderModel (List WriterStep)) → GoOn k.changes → (f g : ℕ) (c : Config) (s z : State (List WriterStep))
     → (order : Order f g) (out : Outcome) → IsForWriter order → Does k f g c s order out z → IsLater s.readers z.readers
 order_later k on f g c s z (order.Add p h) (outcome.Put put) mine d = adds_later k.changes on f g c s z p h (Ok put) d
 order_later k on f g c s z (order.Add p h) (outcome.Refused refusal) mine d = adds_later k.changes on f g c s z p h (Err refusal) d
@@ -186,7 +186,7 @@ module _ {X : Type 0} {f g : ℕ} (s z : State X) where
   kept_rules : z.rules ≡ s.rules → z.updates_begun ≡ s.updates_begun → Comes {X = X} {f = f} {g = g} s z []
   kept_rules rules count = record { rules = rules; begun = omega (arith, count); few = omega arith }
 
-comes : {X : Type 0} (k : Keeping X) (f g : ℕ) (c : Config) (s z : State X) (order : Order f g) (out : Outcome)
+comes : {X : Type 0} (k : ReaderModel X) (f g : ℕ) (c : Config) (s z : State X) (order : Order f g) (out : Outcome)
     → IsForWriter order → Does k f g c s order out z → Comes s z (change_by order out)
 comes k f g c s z (order.Add p h) (outcome.Put Added) mine d = a_change s z _ d.2.0 d.2.1
 comes k f g c s z (order.Add p h) (outcome.Put Replaced) mine d = a_change s z _ d.3.0 d.3.1
@@ -284,7 +284,7 @@ module _ (f g : ℕ) where
       → Does (by_own_steps id.initial) f g config w.table order out z.table → HasVersions R z (before ++ change_by order out)
   unfolding by_steps
   versions_next R id config w z before order out has own own' mine rests does =
-      let keeping : Keeping (List WriterStep) = by_own_steps id.initial in
+      let keeping : ReaderModel (List WriterStep) = by_own_steps id.initial in
       versions_more R id w z before (change_by order out) has own own'
       (order_later keeping (steps_go_on id.initial.workers id.initial.token) f g config w.table z.table order out mine does) rests
       (comes keeping f g config w.table z.table order out mine does)

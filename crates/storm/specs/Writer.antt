@@ -13,7 +13,7 @@ use Rattle.fib_model.specs.declared.orders.Order.{Order}
 use Rattle.fib_model.specs.declared.orders.Order.TheVariants as order
 use Rattle.fib_model.specs.declared.orders.Outcome.{Outcome}
 use Rattle.fib_model.specs.declared.orders.Outcome.TheVariants as outcome
-use Rattle.fib_model.specs.State.{Keeping}
+use Rattle.fib_model.specs.State.{ReaderModel}
 use Rattle.fib_model.specs.Outcomes.{Runs, log_after}
 use Rattle.lpm_trace.specs.declared.step.WriterStep.{WriterStep}
 use Rattle.lpm_trace.specs.States.{updates_begun_in}
@@ -23,7 +23,7 @@ use Rattle.shared_fib.specs.RunningTable.{Identity, IsAtRest, WriterState, by_st
 use Rattle.audit.specs.Wrong.{version_from}
 
 -- the writer's steps stand for what the readers reported; no report is made to the writer itself
-abbrev pub by_own_steps : InitialData → Keeping (List WriterStep)
+abbrev pub by_own_steps : InitialData → ReaderModel (List WriterStep)
 by_own_steps initial = record {
   changes = by_steps initial;
   is_online = λ steps worker. ⊥;

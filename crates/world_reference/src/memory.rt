@@ -92,7 +92,7 @@ fn has_its_value(now: Moment<'_>, step: &Step) -> bool {
     }
 }
 
-/// Whether each load gives the value of the last earlier store to its word, or the opening value;
+/// Whether each load gives the value of the last earlier store to its word, or the initial value;
 /// the sequence and the token are raised by one; and each actor makes its own kinds of step, at
 /// words that there are.
 pub fn loads_are_stores(initial: &InitialState, steps: &[Step]) -> bool {

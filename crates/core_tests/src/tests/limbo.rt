@@ -1,6 +1,6 @@
 ghost use Rattle.std.specs.Prelude.{◌≡◌};
 ghost use Rattle.qsbr.specs.Counters.{IsChecked};
-ghost use Rattle.defer_queue.specs.Retired.{AreRetired};
+ghost use Rattle.defer_queue.specs.RetiredGroups.{AreRetired};
 ghost use Rattle.defer_queue.specs.Longest.{TakesLongest};
 
 use super::asserts::assert_at;
@@ -21,7 +21,7 @@ struct Plain<'a> {
 impl Grace for Plain<'_> {
     ghost use Rattle.std.specs.Prelude.{◌≡◌, ◌<◌, [], ◌∷◌, slice_index, slice_set};
     ghost use Rattle.qsbr.specs.Counters.{IsChecked};
-    ghost use Rattle.defer_queue.specs.Retired.{AreRetired, IsAbsent};
+    ghost use Rattle.defer_queue.specs.RetiredGroups.{AreRetired, IsAbsent};
 
     ghost lent = { λ s. s.tokens.ghost_name ∷ [] };
 

@@ -1,7 +1,7 @@
 ghost use Rattle.std.specs.Prelude.{◌≡◌, ℕ, ◌<◌, ◌↔◌, IsSome, IsTrue};
 ghost use Rattle.lpm_bits.specs.Widths.{IsShape};
 ghost use Rattle.lpm_rules.specs.RuleMap.{RuleMap};
-ghost use Rattle.lpm_update.specs.Linked.{IsTable, IsLinkTo};
+ghost use Rattle.lpm_update.specs.BlockGroups.{IsTable, IsLinkTo};
 ghost use Rattle.lpm_update.specs.Represents.{Represents, IsBegun, TurnsInto, AddFits, LastFits};
 
 use super::asserts::assert_at;

@@ -1,7 +1,7 @@
 use Rattle.std.proofs.Common.{◌≡◌, subst, sym, rules, codes, [], List, Option, Some}
 use Rattle.std.specs.Prelude.{IfErr}
 use Rattle.clap.specs.Words.{Row, Text, found_of, rows_of, subcommand_rows_of}
-use Rattle.lpm_options.specs.Asked.{AsksForTwoStandardInputs, IsRefusalBy}
+use Rattle.lpm_options.specs.Requests.{AsksForTwoStandardInputs, IsRefusalBy}
 use Rattle.lpm_options.proofs.line_of.Goals as goal
 
 pub returns-in_default-command_line-clause-refused : goal.returns-in_default-command_line-clause-refused

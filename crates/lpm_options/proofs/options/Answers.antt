@@ -5,7 +5,7 @@ use Rattle.clap.specs.Words.{App, Row, Text, Kinds, HasKind, is_simple, is_simpl
 use Rattle.clap.specs.Words.{subcommand_of, fault_of}
 use Rattle.clap.proofs.OnLiterals.{clap_on_literals}
 use Rattle.lpm_options.specs.Commands.{the_app}
-use Rattle.lpm_options.specs.Asked.{IsAskedBy, IsRefusalBy}
+use Rattle.lpm_options.specs.Requests.{IsAskedBy, IsRefusalBy}
 use Rattle.lpm_options.proofs.options.Goals as goal
 
 simple : is_simple the_app ≡ true

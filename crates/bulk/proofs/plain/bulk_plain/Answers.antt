@@ -3,7 +3,7 @@ use Rattle.std.specs.List.{flat_map}
 use Rattle.lpm_rules.specs.Longest.{AreLongestHops}
 use Rattle.lpm_rules.proofs.Longest.{length-AreLongestHops}
 use Rattle.bulk.specs.declared.pieces.Piece.{Piece}
-use Rattle.bulk.proofs.Joined.{as_many_pieces, pieces_within, all_answered}
+use Rattle.bulk.proofs.PieceAnswers.{as_many_pieces, pieces_within, all_answered}
 use Rattle.bulk.proofs.plain.bulk_plain.Goals as goal
 
 abbrev addrs_of : Piece → List ℕ

@@ -1,4 +1,4 @@
-use Rattle.fib_model.proofs.Unheld.{unheld_by_none as law}
+use Rattle.fib_model.proofs.LimboFront.{unheld_by_none as law}
 use Rattle.fib_model.proofs.laws.unheld_by_none.Goals as goal
 
 pub returns : goal.returns

@@ -2,7 +2,7 @@ use Rattle.std.proofs.Common.{◌≡◌, refl, ap, sym, subst, ◌∙◌, List, 
 use Rattle.lpm_rules.specs.declared.Change.{Change}
 use Rattle.fib_model.specs.State.{State}
 use Rattle.lpm_writer.specs.declared.control.ControlState.{ControlState}
-use Rattle.lpm_writer.specs.Traced.{WithSteps}
+use Rattle.lpm_writer.specs.MemorySteps.{WithSteps}
 use Rattle.lpm_trace.specs.declared.step.WriterStep.{WriterStep}
 use Rattle.lpm_writer.specs.Rest.{IsResting, state_of}
 use Rattle.lpm_writer.proofs.StepsAlone.{adds_alone, deletes_alone, flushes_alone, frees_alone}

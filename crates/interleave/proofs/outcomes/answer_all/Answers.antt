@@ -25,7 +25,7 @@ whole {f} {g} {v} {z} {l} {replies} all i change low is =
 
 pub reach-requires : goal.reach-requires
 reach-requires g c =
-    let o = c.requires.opening in
+    let o = c.requires.initial in
     let h = c.loop-change.invariant.answered o.0 o.1 o.2 in
     (omega arith, (o.0, h.0, h.1))
 
@@ -43,7 +43,7 @@ returns-then-not-reach-clause-performed g c =
 
 pub answer-requires : goal.answer-requires
 answer-requires g c =
-    let o = c.requires.opening in
+    let o = c.requires.initial in
     let h = c.loop-change.invariant.answered o.0 o.1 o.2 in
     (omega arith, (omega arith, (omega arith, (o.0, h.0, c.if-not-reach.ensures.reaches o.0 h.0 h.1, h.2))))
 

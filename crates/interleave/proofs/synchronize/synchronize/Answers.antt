@@ -2,7 +2,7 @@ use Rattle.std.proofs.Common.{arith, ◌≡◌, ◌+◌, ◌^◌, inl, inr, true
 use Rattle.std.proofs.lemmas.Bool.{cases_lt}
 use Rattle.lpm_writer.specs.declared.control.ControlState.{ControlState}
 use Rattle.lpm_trace.proofs.Versions.{token_is}
-use Rattle.lpm_writer.specs.Traced.{Checks}
+use Rattle.lpm_writer.specs.MemorySteps.{Checks}
 use Rattle.lpm_writer.specs.Commands.{IsWaiting}
 use Rattle.lpm_writer.proofs.StepsAlone.{checks_alone, checks_fixed}
 use Rattle.interleave.specs.View.{WorldView}
@@ -10,7 +10,7 @@ use Rattle.interleave.specs.World.{WorldDid, scripts_and_schedule}
 use Rattle.interleave.specs.WorldLaws.{world_shows}
 use Rattle.interleave.specs.Runs.{Waits, state_by_steps, next_token}
 use Rattle.interleave.proofs.Ends.{ScriptsAndSchedule, does_in, stays}
-use Rattle.interleave.proofs.Waited.{waited_none, waited_more}
+use Rattle.interleave.proofs.Synchronizations.{waited_none, waited_more}
 use Rattle.interleave.proofs.synchronize.synchronize.Goals as goal
 
 not_true : false ≡ true → ⊥

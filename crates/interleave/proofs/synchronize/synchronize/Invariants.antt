@@ -1,6 +1,6 @@
 use Rattle.std.proofs.Common.{◌≡◌}
 use Rattle.interleave.specs.World.{WorldDid, scripts_and_schedule}
-use Rattle.interleave.proofs.Waited.{HasWaited}
+use Rattle.interleave.proofs.Synchronizations.{HasWaited}
 use Rattle.interleave.proofs.synchronize.synchronize.Given as goal
 
 abbrev pub invariant-loop-check : goal.invariant-loop-check

@@ -1,7 +1,7 @@
 use Rattle.std.proofs.Common.{List, subst, rules}
 use Rattle.route_text.specs.declared.routes.Route.{Route}
 use Rattle.lpm_commands.specs.Load.{IsLoaded}
-use Rattle.lpm_commands.proofs.Found.{is_explain_text}
+use Rattle.lpm_commands.proofs.CoverSearch.{is_explain_text}
 use Rattle.lpm_commands.proofs.explain_command.explain.Goals as goal
 
 pub returns-clause-done : goal.returns-clause-done

@@ -1,5 +1,5 @@
 use Rattle.std.proofs.Common.{arith}
-use Rattle.lpm_commands.proofs.Found.{next_explained}
+use Rattle.lpm_commands.proofs.CoverSearch.{next_explained}
 use Rattle.lpm_commands.proofs.explain_command.explanations.Goals as goal
 
 pub loop-addr-preserved : goal.loop-addr-preserved

@@ -1,5 +1,5 @@
 use Rattle.std.proofs.lemmas.Result.{on_ok_weaker}
-use Rattle.lpm_commands.proofs.Found.{explained_by}
+use Rattle.lpm_commands.proofs.CoverSearch.{explained_by}
 use Rattle.lpm_commands.proofs.explain_command.put_explained.Goals as goal
 
 pub returns : goal.returns

@@ -1,5 +1,5 @@
 use Rattle.std.proofs.lemmas.Result.{IfOk-weaker}
-use Rattle.lpm_commands.proofs.Found.{explains_by}
+use Rattle.lpm_commands.proofs.CoverSearch.{explains_by}
 use Rattle.lpm_commands.proofs.explain_command.text_of_table.Goals as goal
 
 pub returns : goal.returns

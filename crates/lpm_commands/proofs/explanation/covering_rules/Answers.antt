@@ -1,5 +1,5 @@
 use Rattle.std.proofs.Common.{◌+◌, arith}
-use Rattle.lpm_commands.proofs.Found.{found_next, found_all, first_answers}
+use Rattle.lpm_commands.proofs.CoverSearch.{found_next, found_all, first_answers}
 use Rattle.lpm_commands.proofs.explanation.covering_rules.Goals as goal
 
 pub loop-host-preserved : goal.loop-host-preserved

@@ -1,5 +1,5 @@
 use Rattle.std.proofs.Common.{◌+◌}
-use Rattle.lpm_commands.proofs.Found.{AreFound}
+use Rattle.lpm_commands.proofs.CoverSearch.{AreFound}
 use Rattle.lpm_commands.proofs.explanation.covering_rules.Given as goal
 
 abbrev pub invariant-loop-host : goal.invariant-loop-host

@@ -4,7 +4,7 @@ use Rattle.lpm_limits.specs.declared.refusal.Refusal.TheVariants.{Exhausted}
 use Rattle.route_text.specs.declared.routes.Route.{Route}
 use Rattle.lpm_commands.specs.Load.{IsFirstRefused}
 use Rattle.lpm_commands.proofs.Texts.{refused_ends}
-use Rattle.lpm_commands.proofs.Filled.{exhausted_first}
+use Rattle.lpm_commands.proofs.FilledTable.{exhausted_first}
 use Rattle.lpm_commands.proofs.refusals.made_of.Goals as goal
 
 pub returns-clause-failure : goal.returns-clause-failure

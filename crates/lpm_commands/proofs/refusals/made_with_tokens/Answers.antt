@@ -5,7 +5,7 @@ use Rattle.lpm_rules.specs.RuleMap.{RuleMap, RuleList}
 use Rattle.fib_model.specs.Outcomes.{groups_in_use}
 use Rattle.lpm_commands.proofs.Texts.{refused_ends}
 use Rattle.lpm_commands.specs.Load.{rules_of_routes}
-use Rattle.lpm_commands.proofs.Filled.{changes_of, changes_read, loaded_as, no_rules, none_in_use, refused_at, rules_read}
+use Rattle.lpm_commands.proofs.FilledTable.{changes_of, changes_read, loaded_as, no_rules, none_in_use, refused_at, rules_read}
 use Rattle.lpm_commands.proofs.refusals.made_with_tokens.Goals as goal
 
 pub loop-index-init : goal.loop-index-init

@@ -2,7 +2,7 @@ use Rattle.std.proofs.Common.{◌≡◌, ◌≤◌, take}
 use Rattle.std.specs.FinMap.{len}
 use Rattle.fib_model.specs.Outcomes.{groups_in_use}
 use Rattle.lpm_commands.specs.Load.{rules_of_routes}
-use Rattle.lpm_commands.proofs.Filled.{changes_of}
+use Rattle.lpm_commands.proofs.FilledTable.{changes_of}
 use Rattle.lpm_commands.proofs.refusals.made_with_tokens.Given as goal
 
 abbrev pub invariant-loop-index : goal.invariant-loop-index

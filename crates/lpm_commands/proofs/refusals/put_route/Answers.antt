@@ -2,7 +2,7 @@ use Rattle.std.proofs.Common.{◌≤◌, ◌∙◌, ap, sym, subst, arith}
 use Rattle.std.specs.FinMap.{len}
 use Rattle.lpm_rules.specs.RuleMap.{RuleList}
 use Rattle.fib_model.specs.Outcomes.{groups_in_use}
-use Rattle.lpm_commands.proofs.Filled.{put_fits, put_groups}
+use Rattle.lpm_commands.proofs.FilledTable.{put_fits, put_groups}
 use Rattle.lpm_commands.proofs.Groups.{as_cond}
 use Rattle.lpm_commands.proofs.refusals.put_route.Goals as goal
 

@@ -2,7 +2,7 @@ use Rattle.std.proofs.Common.{◌≡◌, ◌∙◌, ap, ◌-◌, ◌<◌, ℕ, r
 use Rattle.lpm_bits.specs.Network.{IsNetwork}
 use Rattle.lpm_rules.specs.declared.Rule.{Rule}
 use Rattle.lpm_rules.specs.RuleMap.{prefix_at, rules_of}
-use Rattle.lpm_commands.specs.Filled.{BringsGroup}
+use Rattle.lpm_commands.specs.FilledTable.{BringsGroup}
 use Rattle.lpm_commands.proofs.Groups.{first_brings, other_block, same_block}
 use Rattle.lpm_commands.proofs.sorted_rules.begins_block.Goals as goal
 

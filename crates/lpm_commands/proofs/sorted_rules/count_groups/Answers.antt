@@ -3,7 +3,7 @@ use Rattle.std.proofs.lemmas.List.{take_all}
 use Rattle.lpm_rules.specs.declared.Rule.{Rule}
 use Rattle.lpm_rules.specs.RuleMap.{rules_of}
 use Rattle.fib_model.specs.Outcomes.{groups_in_use}
-use Rattle.lpm_commands.proofs.Filled.{none_in_use}
+use Rattle.lpm_commands.proofs.FilledTable.{none_in_use}
 use Rattle.lpm_commands.proofs.Groups.{byte_at_most, one_rule_more}
 use Rattle.lpm_commands.proofs.sorted_rules.count_groups.Goals as goal
 

@@ -1,5 +1,5 @@
 use Rattle.std.proofs.Common.{◌≡◌, map, take}
-use Rattle.lpm_commands.specs.Filled.{rule_of}
+use Rattle.lpm_commands.specs.FilledTable.{rule_of}
 use Rattle.lpm_commands.proofs.sorted_rules.rules_of_routes.Given as goal
 
 abbrev pub invariant-loop-route : goal.invariant-loop-route

@@ -3,7 +3,7 @@ use Rattle.std.proofs.lemmas.Result.{IfOk-weaker, IfErr-weaker}
 use Rattle.lpm_rules.specs.declared.Rule.{Rule}
 use Rattle.lpm_rules.specs.RuleMap.{rules_of}
 use Rattle.lpm_commands.proofs.Texts.{for_writer, is_plan}
-use Rattle.lpm_commands.proofs.Sorted.{same_rules}
+use Rattle.lpm_commands.proofs.RuleOrder.{same_rules}
 use Rattle.lpm_commands.proofs.storm_command.text_of_lists.Goals as goal
 
 pub text_of_plan-requires-clause-rules : goal.text_of_plan-requires-clause-rules

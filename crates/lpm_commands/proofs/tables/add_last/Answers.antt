@@ -4,8 +4,8 @@ use Rattle.lpm_rules.specs.RuleMap.{RuleMap, with_rules}
 use Rattle.fib_model.specs.Outcomes.{Adds}
 use Rattle.fib_model.specs.Counters.{counter_transitions}
 use Rattle.lpm_commands.proofs.Texts.{added_rules}
-use Rattle.lpm_commands.proofs.Filled.{filled_more}
-use Rattle.lpm_commands.proofs.Sorted.{put_in}
+use Rattle.lpm_commands.proofs.FilledTable.{filled_more}
+use Rattle.lpm_commands.proofs.RuleOrder.{put_in}
 use Rattle.lpm_commands.proofs.tables.add_last.Goals as goal
 
 pub loop-index-preserved : goal.loop-index-preserved

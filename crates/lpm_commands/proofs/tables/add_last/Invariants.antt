@@ -1,6 +1,6 @@
 use Rattle.std.proofs.Common.{◌≡◌, drop}
 use Rattle.lpm_rules.specs.RuleMap.{with_rules}
-use Rattle.lpm_commands.specs.Filled.{IsFilled}
+use Rattle.lpm_commands.specs.FilledTable.{IsFilled}
 use Rattle.lpm_commands.proofs.tables.add_last.Given as goal
 
 abbrev pub invariant-loop-index : goal.invariant-loop-index

@@ -1,7 +1,7 @@
 use Rattle.std.proofs.Common.{◌≡◌, length, map}
 use Rattle.lpm_rules.specs.Changes.{rules_after}
 use Rattle.lpm_commands.specs.Load.{addition_of}
-use Rattle.lpm_commands.specs.Filled.{IsFilled}
+use Rattle.lpm_commands.specs.FilledTable.{IsFilled}
 use Rattle.lpm_commands.proofs.tables.add_pieces.Given as goal
 
 abbrev pub invariant-loop-rest : goal.invariant-loop-rest

@@ -1,7 +1,7 @@
 use Rattle.std.proofs.Common.{subst, ◌+◌, ◌<◌, ◌≤◌, ◌^◌, length, rules}
 use Rattle.std.specs.FinMap.{len}
 use Rattle.lpm_rules.specs.RuleMap.{RuleMap}
-use Rattle.lpm_commands.proofs.Filled.{lasts_for}
+use Rattle.lpm_commands.proofs.FilledTable.{lasts_for}
 use Rattle.lpm_commands.proofs.tables.fitting_rules.Goals as goal
 
 pub returns-clause-tokens : goal.returns-clause-tokens

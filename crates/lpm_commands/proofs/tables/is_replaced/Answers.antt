@@ -1,6 +1,6 @@
 use Rattle.std.proofs.Common.{◌≡◌, ◌∙◌, ap, sym, arith}
 use Rattle.lpm_rules.specs.declared.Rule.{Rule}
-use Rattle.lpm_commands.proofs.Sorted.{same_network, replaced}
+use Rattle.lpm_commands.proofs.RuleOrder.{same_network, replaced}
 use Rattle.lpm_commands.proofs.tables.is_replaced.Goals as goal
 
 pub returns-then-after-rules : goal.returns-then-after-rules

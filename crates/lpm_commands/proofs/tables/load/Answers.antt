@@ -1,5 +1,5 @@
 use Rattle.std.proofs.Common.{rules}
-use Rattle.lpm_commands.proofs.Filled.{ends_longer}
+use Rattle.lpm_commands.proofs.FilledTable.{ends_longer}
 use Rattle.lpm_commands.proofs.tables.load.Goals as goal
 
 pub returns-in_err-table-clause-failure : goal.returns-in_err-table-clause-failure

@@ -5,7 +5,7 @@ use Rattle.lpm_rules.specs.RuleMap.{RuleMap}
 use Rattle.lpm_rules.specs.Changes.{rules_after}
 use Rattle.route_text.specs.declared.routes.Route.{Route}
 use Rattle.lpm_commands.specs.Load.{addition_of, rules_of_routes}
-use Rattle.lpm_commands.proofs.Sorted.{rules_after-append}
+use Rattle.lpm_commands.proofs.RuleOrder.{rules_after-append}
 use Rattle.lpm_commands.proofs.tables.load_in_order.Goals as goal
 
 pub returns-clause-rules : goal.returns-clause-rules

@@ -1,6 +1,6 @@
 use Rattle.std.proofs.Common.{◌∙◌, ap, arith}
 use Rattle.lpm_commands.specs.Load.{rules_of_routes}
-use Rattle.lpm_commands.proofs.Filled.{loads_filled}
+use Rattle.lpm_commands.proofs.FilledTable.{loads_filled}
 use Rattle.lpm_commands.proofs.tables.open_and_add.Goals as goal
 
 pub returns-clause-loads : goal.returns-clause-loads

@@ -3,7 +3,7 @@ use Rattle.std.proofs.lemmas.Result.{IfOk-weaker, IfErr-weaker}
 use Rattle.lpm_rules.specs.RuleMap.{rules_of}
 use Rattle.route_text.specs.declared.routes.Route.{Route}
 use Rattle.lpm_commands.specs.Load.{EndsLoading, rules_of_routes}
-use Rattle.lpm_commands.proofs.Filled.{loads_by_rules}
+use Rattle.lpm_commands.proofs.FilledTable.{loads_by_rules}
 use Rattle.lpm_commands.proofs.Groups.{loaded_as_given, ends_as_given}
 use Rattle.lpm_commands.proofs.tables.open_for_lookups.Goals as goal
 

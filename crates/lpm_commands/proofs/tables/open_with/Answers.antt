@@ -2,7 +2,7 @@ use Rattle.std.proofs.Common.{sym, subst, ◌+◌, ◌<◌, ◌≤◌, ◌^◌, 
 use Rattle.std.specs.FinMap.{len}
 use Rattle.lpm_rules.specs.declared.Rule.{Rule}
 use Rattle.lpm_rules.specs.RuleMap.{rules_of}
-use Rattle.lpm_commands.proofs.Filled.{opened_filled}
+use Rattle.lpm_commands.proofs.FilledTable.{opened_filled}
 use Rattle.lpm_commands.proofs.tables.open_with.Goals as goal
 
 pub returns-clause-filled : goal.returns-clause-filled

@@ -1,7 +1,7 @@
 use Rattle.std.proofs.Common.{arith, subst, take, List, ℕ, length, ◌≤◌, drop}
 use Rattle.std.proofs.lemmas.List.{take_rest, length-drop}
 use Rattle.std.specs.Io.KnownBytes.{Appends}
-use Rattle.lpm_files.proofs.Written.{stays, farther}
+use Rattle.lpm_files.proofs.WrittenTexts.{stays, farther}
 use Rattle.lpm_files.proofs.files.put_text.Goals as goal
 use Rattle.lpm_files.proofs.files.put_text.Goals.{in-Ok, in-Err+else-ne}
 

@@ -1,7 +1,7 @@
 use Rattle.std.proofs.Common.{◌≡◌, ◌≢◌, ◌+◌, ◌-◌, ◌<◌, length, get_or, sym, ap, ◌∙◌, arith}
 use Rattle.std.proofs.lemmas.Bool.Decides.{nat_tests}
 use Rattle.bstr.proofs.lemmas.LengthLemmas.{length-lines}
-use Rattle.lpm_files.proofs.Joined.{no_bytes, ended, not_ended}
+use Rattle.lpm_files.proofs.CutLines.{no_bytes, ended, not_ended}
 use Rattle.lpm_files.proofs.lines.count_lines.Goals as goal
 
 pub returns-then-is_empty : goal.returns-then-is_empty

@@ -1,6 +1,6 @@
 use Rattle.std.proofs.Common.{◌++◌, List, ℕ, sym, ap, ap₂, ◌∙◌}
 use Rattle.route_text.specs.Files.{lines}
-use Rattle.lpm_files.proofs.Joined.{cut_lines}
+use Rattle.lpm_files.proofs.CutLines.{cut_lines}
 use Rattle.lpm_files.proofs.pieces.+parsing.Goals as goal
 
 pub joined-requires-clause-cut : goal.joined-requires-clause-cut

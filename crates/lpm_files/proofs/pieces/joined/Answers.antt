@@ -1,7 +1,7 @@
 use Rattle.std.proofs.Common.{◌++◌, length, map, sym, ap, subst, ◌∙◌, arith}
 use Rattle.bstr.proofs.lemmas.LengthLemmas.{length-lines}
 use Rattle.route_text.specs.Files.{lines, AreItems}
-use Rattle.lpm_files.proofs.Joined.{both_lists}
+use Rattle.lpm_files.proofs.CutLines.{both_lists}
 use Rattle.lpm_files.proofs.pieces.joined.Goals as goal
 
 pub append-requires : goal.append-requires

@@ -2,7 +2,7 @@ use Rattle.std.proofs.Common.{◌+◌, ap, subst, refl, arith}
 use Rattle.bstr.proofs.lemmas.LengthLemmas.{length-lines}
 use Rattle.route_text.specs.declared.fault.ReadError.{ReadError}
 use Rattle.route_text.specs.Files.{lines, IsFirstFault, IsReadError}
-use Rattle.lpm_files.proofs.Joined.{back_fault, fault_within}
+use Rattle.lpm_files.proofs.CutLines.{back_fault, fault_within}
 use Rattle.lpm_files.proofs.pieces.later.Goals as goal
 
 pub overflow_add-result : goal.overflow_add-result

@@ -1,6 +1,6 @@
 use Rattle.std.proofs.Common.{inl, inr, ap, Err}
 use Rattle.lpm_files.specs.declared.failure.Failure.{Failure}
-use Rattle.lpm_program.proofs.Ended.{cannot_write}
+use Rattle.lpm_program.proofs.RunEnds.{cannot_write}
 use Rattle.lpm_program.proofs.Causes.{refused_cause}
 use Rattle.lpm_program.proofs.run.run.Goals as goal
 

@@ -3,7 +3,7 @@ use Rattle.std.proofs.Math.ListN.{length-set}
 use Rattle.std.specs.FinMap as map
 use Rattle.lpm_rules.specs.RuleMap.{RuleList}
 use Rattle.lpm_rules.proofs.Views.{none_at}
-use Rattle.lpm_rules.proofs.Collected.{sound_empty, emptied_more}
+use Rattle.lpm_rules.proofs.LengthMaps.{sound_empty, emptied_more}
 use Rattle.lpm_rules.proofs.Rules.clear.Goals as goal
 
 pub loop-length-init : goal.loop-length-init

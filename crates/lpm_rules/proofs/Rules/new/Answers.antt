@@ -1,6 +1,6 @@
 use Rattle.std.proofs.Common.{arith, ◌≡◌, ap, length}
 use Rattle.lpm_rules.proofs.Views.{none_at}
-use Rattle.lpm_rules.proofs.Collected.{sound_empty}
+use Rattle.lpm_rules.proofs.LengthMaps.{sound_empty}
 use Rattle.lpm_rules.proofs.Rules.new.Goals as goal
 
 pub returns : goal.returns

@@ -1,6 +1,6 @@
 use Rattle.std.proofs.Common.{ap}
 use Rattle.lpm_rules.specs.RuleMap.{RuleMap}
-use Rattle.lpm_rules.proofs.Collected.{lengths_are, sound_of}
+use Rattle.lpm_rules.proofs.LengthMaps.{lengths_are, sound_of}
 use Rattle.lpm_rules.proofs.Rules.of_sorted.Goals as goal
 
 pub returns : goal.returns

@@ -1,5 +1,5 @@
 use Rattle.std.proofs.Common.{arith, sym, ◌∙◌}
-use Rattle.lpm_rules.proofs.Collected.{IsPlace, had, has_one, taken_out, same_list, sound_removed, sound_kept}
+use Rattle.lpm_rules.proofs.LengthMaps.{IsPlace, had, has_one, taken_out, same_list, sound_removed, sound_kept}
 use Rattle.lpm_rules.proofs.Rules.remove.Given.{Over}
 use Rattle.lpm_rules.proofs.Rules.remove.Goals.{After-index-self-len}
 use Rattle.lpm_rules.proofs.Rules.remove.Goals as goal

@@ -1,5 +1,5 @@
 use Rattle.std.proofs.Common.{arith, sym, ◌∙◌}
-use Rattle.lpm_rules.proofs.Collected.{IsPlace, had, has_room, put_in, same_list, sound_added, sound_replaced, sound_kept}
+use Rattle.lpm_rules.proofs.LengthMaps.{IsPlace, had, has_room, put_in, same_list, sound_added, sound_replaced, sound_kept}
 use Rattle.lpm_rules.proofs.Rules.store.Given.{Over}
 use Rattle.lpm_rules.proofs.Rules.store.Goals.{After-index-self-len}
 use Rattle.lpm_rules.proofs.Rules.store.Goals as goal

@@ -2,7 +2,7 @@ use Rattle.std.proofs.Common.{arith, ℕ, ◌∙◌, subst, get_or, List}
 use Rattle.std.specs.Ordering.{nat_cmp}
 use Rattle.std.specs.BTreeMap.{IsFromIterResult}
 use Rattle.std.proofs.Math.ListN.{length-set}
-use Rattle.lpm_rules.proofs.Collected.{collected_on}
+use Rattle.lpm_rules.proofs.LengthMaps.{collected_on}
 use Rattle.lpm_rules.proofs.maps.maps_by_length.Goals as goal
 
 pub loop-len-preserved : goal.loop-len-preserved

@@ -4,7 +4,7 @@ use Rattle.lpm_rules.specs.RuleMap.{AllNetworks, rules_of}
 use Rattle.lpm_rules.specs.declared.Rule.{Rule}
 use Rattle.lpm_rules.specs.Changes.{ArePairs}
 use Rattle.lpm_rules.proofs.Views.{networks_empty}
-use Rattle.lpm_rules.proofs.Collected.{pairs_on, networks_on}
+use Rattle.lpm_rules.proofs.LengthMaps.{pairs_on, networks_on}
 use Rattle.lpm_rules.proofs.maps.pairs_by_length.Goals as goal
 
 pub loop-rule-init : goal.loop-rule-init

@@ -4,7 +4,7 @@ use Rattle.std.specs.FinMap.{insert}
 use Rattle.lpm_rules.specs.RuleMap.{RuleMap, place, prefix_at, rules_of, AllUpTo}
 use Rattle.lpm_rules.specs.Deep.{IsDeepBlock}
 use Rattle.lpm_rules.proofs.Deep.{deep_inserted}
-use Rattle.lpm_sweep.specs.Swept.{word_by_frames, IsFilling}
+use Rattle.lpm_sweep.specs.SweepWords.{word_by_frames, IsFilling}
 use Rattle.lpm_rules.proofs.Views.{prefix_read, rules_more}
 use Rattle.lpm_sweep.proofs.Sweeps.{deep_stays, later_block, onward, filled_on}
 use Rattle.lpm_sweep.proofs.group_words.fill_group.Given.{Over}

@@ -1,7 +1,7 @@
 use Rattle.std.proofs.Common.{◌≡◌, ℕ, ◌+◌, ◌-◌, ◌*◌, ◌^◌, ◌<◌, ◌≤◌, length, take}
 use Rattle.std.specs.Prelude.{slice_index}
 use Rattle.lpm_rules.specs.Deep.{IsDeepBlock}
-use Rattle.lpm_sweep.specs.Swept.{word_by_frames, IsFilling}
+use Rattle.lpm_sweep.specs.SweepWords.{word_by_frames, IsFilling}
 use Rattle.lpm_rules.specs.RuleMap.{AllUpTo, place, prefix_at, rules_of}
 use Rattle.lpm_sweep.proofs.group_words.fill_group.Given as goal
 

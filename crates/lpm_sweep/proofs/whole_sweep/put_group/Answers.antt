@@ -4,7 +4,7 @@ use Rattle.std.proofs.lemmas.Grind.{common_steps}
 use Rattle.lpm_cells.specs.declared.entry.Entry.TheVariants.{Group}
 use Rattle.lpm_cells.specs.Words.{word_of}
 use Rattle.lpm_update.proofs.Places.{word_entry}
-use Rattle.lpm_sweep.specs.Swept.{word_by_frames, word_at, IsSwept, AreNumbered}
+use Rattle.lpm_sweep.specs.SweepWords.{word_by_frames, word_at, IsSwept, AreNumbered}
 use Rattle.lpm_rules.specs.RuleMap.{prefix_at, rules_of}
 use Rattle.lpm_sweep.proofs.Stacks.{under_end}
 use Rattle.lpm_rules.proofs.Views.{prefix_read}

@@ -1,7 +1,7 @@
 use Rattle.std.proofs.Common.{arith, ◌≡◌, ◌+◌, ◌-◌, ◌*◌, ◌/◌, ◌%◌, ◌^◌, ap, ◌∙◌, length}
 use Rattle.std.proofs.lemmas.Nat.{one_shl}
 use Rattle.lpm_sweep.specs.declared.frames.Frame.{Frame}
-use Rattle.lpm_sweep.specs.Swept.{word_by_frames}
+use Rattle.lpm_sweep.specs.SweepWords.{word_by_frames}
 use Rattle.lpm_sweep.proofs.Sweeps.{swept_on, numbered_on, swept_short}
 use Rattle.lpm_sweep.proofs.whole_sweep.put_short.Goals as goal
 

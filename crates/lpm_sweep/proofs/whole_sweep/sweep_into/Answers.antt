@@ -12,7 +12,7 @@ use Rattle.lpm_rules.proofs.Deep.{deep_blocks_empty, deep_blocks_insert_short}
 use Rattle.lpm_update.proofs.Places.{block_low}
 use Rattle.lpm_update.specs.Represents.{Represents}
 use Rattle.std.proofs.lemmas.Grind.{common_steps}
-use Rattle.lpm_sweep.specs.Swept.{word_by_frames, IsSwept, AreNumbered}
+use Rattle.lpm_sweep.specs.SweepWords.{word_by_frames, IsSwept, AreNumbered}
 use Rattle.lpm_sweep.proofs.Sweeps.{onward, swept_on, numbered_on}
 use Rattle.lpm_sweep.proofs.NewGroup.{swept_none, numbered_none, swept_all}
 use Rattle.lpm_sweep.proofs.DeepBlocks.{more_blocks}

@@ -1,7 +1,7 @@
 use Rattle.std.proofs.Common.{◌≡◌, ℕ, ◌-◌, ◌*◌, ◌^◌, ◌<◌, ◌≤◌, length, take}
 use Rattle.std.specs.FinSet as set
 use Rattle.lpm_rules.specs.Deep.{deep_blocks}
-use Rattle.lpm_sweep.specs.Swept.{word_by_frames, IsSwept, AreNumbered}
+use Rattle.lpm_sweep.specs.SweepWords.{word_by_frames, IsSwept, AreNumbered}
 use Rattle.lpm_rules.specs.RuleMap.{AllUpTo, place, prefix_at, rules_of}
 use Rattle.lpm_sweep.proofs.whole_sweep.sweep_into.Given as goal
 

@@ -1,7 +1,7 @@
 use Rattle.std.proofs.Common.{arith, length-drop, inl, inr, drop, ◌≡◌, ℕ, suc, Option, ◌+◌, ◌<◌, ◌≤◌, ◌^◌, refl, sym, ap, subst, ◌∙◌, List, [], ◌∷◌, ◌++◌, length}
 use Rattle.lpm_limits.specs.declared.config.Config.{Config}
 use Rattle.lpm_rules.specs.RuleMap.{RuleList}
-use Rattle.lpm_update.specs.Tied.{IsTied}
+use Rattle.lpm_update.specs.GroupStates.{IsTied}
 use Rattle.lpm_update.specs.Update.{group_held}
 use Rattle.lpm_trace.specs.declared.step.WriterStep.{WriterStep}
 use Rattle.lpm_trace.specs.declared.step.WriterStep.TheVariants.{BeginUpdate, BumpToken, EndUpdate}
@@ -23,7 +23,7 @@ use Rattle.lpm_update.specs.declared.update.Update.{Update}
 use Rattle.lpm_writer.specs.declared.pool.GroupPool.{GroupPool}
 use Rattle.lpm_writer.specs.declared.control.ControlState.{ControlState}
 use Rattle.lpm_writer.specs.GroupsMatch.{GroupsMatchSteps, MayReclaim, OnlyChecks}
-use Rattle.lpm_writer.specs.Traced.{by_writer}
+use Rattle.lpm_writer.specs.MemorySteps.{by_writer}
 use Rattle.std.proofs.Math.ListN.{length-set}
 use Rattle.std.specs.Option.{option_map}
 use Rattle.lpm_groups.specs.States.{is_linked}

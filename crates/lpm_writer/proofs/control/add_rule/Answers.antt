@@ -7,14 +7,14 @@ use Rattle.lpm_rules.specs.RuleMap.{RuleList}
 use Rattle.lpm_limits.specs.declared.refusal.Refusal.TheVariants.{NoGroups}
 use Rattle.fib_model.specs.Outcomes.{Adds, groups_in_use}
 use Rattle.fib_model.specs.State.{HasTokens}
-use Rattle.lpm_update.specs.Linked.{group_at}
-use Rattle.lpm_update.specs.Tied.{IsTied}
+use Rattle.lpm_update.specs.BlockGroups.{group_at}
+use Rattle.lpm_update.specs.GroupStates.{IsTied}
 use Rattle.lpm_trace.specs.declared.step.RuleChange.{RuleChange}
 use Rattle.lpm_trace.specs.declared.step.RuleChange.TheVariants.{Put as Puts}
 use Rattle.lpm_trace.specs.declared.step.WriterStep.{WriterStep}
 use Rattle.lpm_trace.specs.States.{InitialState, state_after}
 use Rattle.lpm_writer.specs.Take.{Finds, LinksLeast}
-use Rattle.lpm_writer.specs.Traced.{by_writer}
+use Rattle.lpm_writer.specs.MemorySteps.{by_writer}
 use Rattle.lpm_writer.specs.Rest.{IsResting, IsDue, state_of}
 use Rattle.lpm_writer.specs.Commands.{Commands, Rests}
 use Rattle.lpm_writer.proofs.StepsAlone.{after_find}

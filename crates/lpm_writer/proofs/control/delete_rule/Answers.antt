@@ -9,7 +9,7 @@ use Rattle.lpm_trace.specs.declared.step.RuleChange.{RuleChange}
 use Rattle.lpm_trace.specs.declared.step.RuleChange.TheVariants.{TakeOut}
 use Rattle.lpm_trace.specs.declared.step.WriterStep.{WriterStep}
 use Rattle.lpm_trace.specs.States.{InitialState, state_after}
-use Rattle.lpm_writer.specs.Traced.{by_writer}
+use Rattle.lpm_writer.specs.MemorySteps.{by_writer}
 use Rattle.lpm_writer.specs.Rest.{IsDue, state_of}
 use Rattle.lpm_writer.specs.Commands.{Commands, Rests}
 use Rattle.lpm_writer.proofs.Rests.{due_at_rest, has_tokens, shrinks}

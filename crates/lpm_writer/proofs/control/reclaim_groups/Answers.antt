@@ -1,6 +1,6 @@
 use Rattle.std.proofs.Common.{◌≤◌, refl, sym, subst, [], length, None}
 use Rattle.defer_queue.specs.Limbo.{Limbo as Queue}
-use Rattle.lpm_update.specs.Linked.{group_at}
+use Rattle.lpm_update.specs.BlockGroups.{group_at}
 use Rattle.lpm_trace.specs.States.{state_after}
 use Rattle.lpm_writer.specs.Limbo.{AreWaiting, IsQueued, tokens_of}
 use Rattle.lpm_writer.proofs.LimboItems.{freed_within, freed_queue, no_tail, without_tail, may_reclaim}

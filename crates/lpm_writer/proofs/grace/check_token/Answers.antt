@@ -3,7 +3,7 @@ use Rattle.std.proofs.lemmas.Bool.{cases_lt}
 use Rattle.lpm_trace.specs.declared.step.WriterStep.TheVariants.{LoadCounter}
 use Rattle.std.specs.Prelude.{Err}
 use Rattle.lpm_limits.specs.declared.busy.Busy.{Busy}
-use Rattle.lpm_writer.specs.Traced.{LoadsUntilStopped, Loads}
+use Rattle.lpm_writer.specs.MemorySteps.{LoadsUntilStopped, Loads}
 use Rattle.lpm_writer.proofs.Checks.{counters_loaded_none, counters_loaded_more, passed_where_all_pass, passed_where_one_stops, passes_by}
 use Rattle.lpm_writer.proofs.grace.check_token.Goals as goal
 

@@ -3,7 +3,7 @@ use Rattle.std.specs.Prelude.{Ok, IfOk, OnErr}
 use Rattle.lpm_groups.specs.States.{free_count}
 use Rattle.lpm_writer.specs.GroupsMatch.{GroupsMatchSteps}
 use Rattle.lpm_writer.specs.Take.{LinksLeast, Takes, TakesAt, taken_by}
-use Rattle.lpm_writer.specs.Traced.{by_writer}
+use Rattle.lpm_writer.specs.MemorySteps.{by_writer}
 use Rattle.lpm_writer.specs.Limbo.{IsQueued, IsTaken}
 use Rattle.lpm_writer.proofs.LimboItems.{taken_from, taken_queue, least_linked, no_tail, may_reclaim}
 use Rattle.lpm_writer.proofs.Takes.{HasReclaimed, HasTakenLeast, took_none, takes_free, takes_oldest, oldest_linked, oldest_least, oldest_unchanged, oldest_queued}

@@ -1,6 +1,6 @@
 use Rattle.std.proofs.Common.{◌≤◌, sym, subst, ◌∙◌}
 use Rattle.std.proofs.lemmas.Result.{on_ok_weaker}
-use Rattle.lpm_writer.specs.Traced.{Checks}
+use Rattle.lpm_writer.specs.MemorySteps.{Checks}
 use Rattle.lpm_writer.specs.GroupsMatch.{MayLoadCounters}
 use Rattle.lpm_writer.proofs.Waits.{asks_awaited, remembers_awaited, queued_passed, checked}
 use Rattle.lpm_writer.proofs.synchronize.check_synchronize.Goals as goal

@@ -2,7 +2,7 @@ use Rattle.std.proofs.Common.{List, ◌∷◌, refl}
 use Rattle.lpm_trace.specs.declared.step.WriterStep.{WriterStep}
 use Rattle.lpm_trace.specs.declared.step.WriterStep.TheVariants.{BumpToken}
 use Rattle.lpm_trace.specs.States.{InitialState}
-use Rattle.lpm_writer.specs.Traced.{Goes}
+use Rattle.lpm_writer.specs.MemorySteps.{Goes}
 use Rattle.lpm_writer.specs.Commands.{Rests, IsWaiting}
 use Rattle.lpm_writer.proofs.Waits.{may_start, waits_started}
 use Rattle.lpm_writer.proofs.synchronize.start_synchronize.Given.{Over}

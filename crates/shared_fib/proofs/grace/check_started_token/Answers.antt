@@ -1,7 +1,7 @@
 use Rattle.std.proofs.Common.{arith, ◌≡◌, ◌∙◌, ap, rules, sym}
 use Rattle.lpm_trace.proofs.Versions.{token_is}
 use Rattle.shared_words.specs.Layout.{initial_state_of}
-use Rattle.shared_fib.proofs.Seated.{Kept}
+use Rattle.shared_fib.proofs.SeatMemory.{Kept}
 use Rattle.shared_fib.proofs.Tokens.{checks_once, kept_by_check}
 use Rattle.shared_fib.proofs.grace.check_started_token.Goals as goal
 

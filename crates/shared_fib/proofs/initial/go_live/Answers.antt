@@ -1,5 +1,5 @@
 use Rattle.std.proofs.Common.{ℕ, ◌≡◌, IfOk, subst, lit<}
-use Rattle.shared_fib.proofs.AllFreed.{none_queued, token_stays}
+use Rattle.shared_fib.proofs.EmptyLimbo.{none_queued, token_stays}
 use Rattle.shared_fib.proofs.initial.go_live.Goals as goal
 
 pub begin-requires : goal.begin-requires

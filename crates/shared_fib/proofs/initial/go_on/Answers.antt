@@ -35,9 +35,9 @@ new-requires-2 g c =
     let o : InitialData = initial_data_of f s l in
     let words = c.in_ok-words in
     let bench = c.in_ok-bench.ensures in
-    let z = c.first_control-control.result in
+    let z = c.initial_control-control.result in
     let rests = subst (λ (y : ControlState f s). IsResting f s (initial_state_of o) [] y.config y.rules y.pool y.versions)
-    (sym c.first_control-control.ensures) c.requires.rests in (
+    (sym c.initial_control-control.ensures) c.requires.rests in (
       lit< tt,
       (
         lit< tt,
@@ -60,8 +60,8 @@ returns-clause-opened g c =
     let l = c.args.initial in
     let words = c.in_ok-words in
     let bench = c.in_ok-bench.ensures in
-    let z = c.first_control-control.result in
-    let first = c.first_control-control.ensures in
+    let z = c.initial_control-control.result in
+    let first = c.initial_control-control.ensures in
     let none = ap (λ (y : ControlState f s). y.pool.queue.items) first ∙ c.requires.none in
     let opened = opens f s l words.words words.seat.table words.seat.view c.full.new.seat.view bench.view.0
     words.ensures.initial words.ensures.own words.ensures.view bench.view.1

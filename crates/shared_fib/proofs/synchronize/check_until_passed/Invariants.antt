@@ -1,7 +1,7 @@
 use Rattle.std.proofs.Common.{◌≡◌}
 use Rattle.lpm_writer.specs.Commands.{IsWaiting}
 use Rattle.shared_words.specs.Layout.{initial_state_of}
-use Rattle.shared_fib.proofs.Waited.{HasWaited}
+use Rattle.shared_fib.proofs.Synchronizations.{HasWaited}
 use Rattle.shared_fib.proofs.synchronize.check_until_passed.Given as goal
 
 abbrev pub invariant-loop : goal.invariant-loop

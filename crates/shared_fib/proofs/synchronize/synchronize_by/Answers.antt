@@ -4,7 +4,7 @@ use Rattle.std.proofs.lemmas.Result.{on_ok_weaker}
 use Rattle.lpm_writer.specs.Steps.{Synchronizes}
 use Rattle.shared_words.specs.declared.view.View.{View}
 use Rattle.shared_fib.specs.RunningTable.{OnlySees}
-use Rattle.shared_fib.proofs.Checked.{looked, synchronize_checked}
+use Rattle.shared_fib.proofs.TokenChecks.{looked, synchronize_checked}
 use Rattle.shared_fib.proofs.CommandSteps.{synchronized_later}
 use Rattle.shared_fib.proofs.synchronize.synchronize_by.Goals as goal
 

@@ -1,6 +1,6 @@
 use Rattle.std.proofs.Common.{arith, ◌≡◌, inl, inr, subst}
 use Rattle.std.proofs.lemmas.Bool.{cases_lt}
-use Rattle.lpm_update.specs.Linked.{IsLinkTo}
+use Rattle.lpm_update.specs.BlockGroups.{IsLinkTo}
 use Rattle.lpm_update.proofs.Promises.{past_group}
 use Rattle.core_tests.proofs.tests.update.is_unlinked.Goals as goal
 

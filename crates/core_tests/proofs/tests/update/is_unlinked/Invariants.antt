@@ -1,5 +1,5 @@
 use Rattle.std.proofs.Common.{ℕ, ◌<◌}
-use Rattle.lpm_update.specs.Linked.{IsLinkTo}
+use Rattle.lpm_update.specs.BlockGroups.{IsLinkTo}
 use Rattle.core_tests.proofs.tests.update.is_unlinked.Given as goal
 
 abbrev pub invariant-loop-block : goal.invariant-loop-block

@@ -1,8 +1,8 @@
 use Rattle.std.proofs.Common.{arith, rules, ◌≡◌, min, length, below_more, subst}
 use Rattle.std.proofs.lemmas.List.{get_or_read}
 use Rattle.fib_model.proofs.Unique.{IsUnheld}
-use Rattle.fib_model.specs.Expected.{events_of}
-use Rattle.fib_model.proofs.Unheld.{front_all, front_stopped}
+use Rattle.fib_model.specs.Accounts.{events_of}
+use Rattle.fib_model.proofs.LimboFront.{front_all, front_stopped}
 use Rattle.fib_model.proofs.limbo.PlainLimbo.front.Goals as goal
 
 pub returns-in-Some : goal.returns-in-Some

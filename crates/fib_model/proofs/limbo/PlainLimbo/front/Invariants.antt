@@ -1,5 +1,5 @@
 use Rattle.std.proofs.Common.{ℕ, ◌<◌, get_or}
-use Rattle.fib_model.specs.Expected.{events_of}
+use Rattle.fib_model.specs.Accounts.{events_of}
 use Rattle.fib_model.proofs.Unique.{IsUnheld}
 use Rattle.fib_model.proofs.limbo.PlainLimbo.front.Given as goal
 

@@ -2,7 +2,7 @@ use Rattle.std.proofs.Common.{arith, subst, reverse}
 use Rattle.qsbr.specs.Intervals.{IsRunningSince}
 use Rattle.fib_model.specs.Textbook.{by_reports}
 use Rattle.qsbr.proofs.RunningIntervals.{held_start}
-use Rattle.fib_model.specs.Expected.{events_of}
+use Rattle.fib_model.specs.Accounts.{events_of}
 use Rattle.fib_model.proofs.limbo.PlainLimbo.held_by.Goals as goal
 
 pub returns-then-start-place : goal.returns-then-start-place

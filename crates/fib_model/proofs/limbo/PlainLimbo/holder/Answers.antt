@@ -1,6 +1,6 @@
 use Rattle.std.proofs.Common.{arith, below_more, refl}
-use Rattle.fib_model.specs.Expected.{events_of}
-use Rattle.fib_model.proofs.Unheld.{first_holder, none_hold}
+use Rattle.fib_model.specs.Accounts.{events_of}
+use Rattle.fib_model.proofs.LimboFront.{first_holder, none_hold}
 use Rattle.fib_model.proofs.limbo.PlainLimbo.holder.Goals as goal
 
 pub returns-in-Some : goal.returns-in-Some

@@ -1,7 +1,7 @@
 use Rattle.std.proofs.Common.{ℕ, ◌<◌}
 use Rattle.qsbr.specs.Intervals.{IsHeldByWorker}
 use Rattle.fib_model.specs.Textbook.{by_reports}
-use Rattle.fib_model.specs.Expected.{events_of}
+use Rattle.fib_model.specs.Accounts.{events_of}
 use Rattle.fib_model.proofs.limbo.PlainLimbo.holder.Given as goal
 
 -- no worker so far holds it

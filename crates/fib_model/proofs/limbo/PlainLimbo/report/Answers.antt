@@ -1,6 +1,6 @@
 use Rattle.std.proofs.Common.{arith, rules, ap, ◌∙◌, ◌≡◌, [], ◌∷◌, ◌++◌, true}
 use Rattle.std.specs.FinMap.{empty}
-use Rattle.fib_model.specs.Expected.{events_of, state_with}
+use Rattle.fib_model.specs.Accounts.{events_of, state_with}
 use Rattle.fib_model.proofs.Runs.{fresh, tidy_told, tidy_pushed}
 use Rattle.fib_model.proofs.limbo.PlainLimbo.report.Goals as goal
 

@@ -1,5 +1,5 @@
 use Rattle.std.proofs.Common.{reverse, subst, sym, ap, ◌≡◌}
-use Rattle.fib_model.specs.Expected.{events_of}
+use Rattle.fib_model.specs.Accounts.{events_of}
 use Rattle.qsbr.specs.Intervals.{IsTidy}
 use Rattle.fib_model.specs.Textbook.{by_reports}
 use Rattle.fib_model.proofs.Runs.{tidy_unlinked, tidy_pushed}

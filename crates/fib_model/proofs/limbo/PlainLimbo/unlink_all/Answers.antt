@@ -1,7 +1,7 @@
 use Rattle.std.proofs.Common.{suc, subst, ◌+◌, ◌≡◌, arith}
 use Rattle.fib_model.specs.State.{Unlinks}
 use Rattle.fib_model.specs.Textbook.{textbook}
-use Rattle.fib_model.specs.Expected.{events_of}
+use Rattle.fib_model.specs.Accounts.{events_of}
 use Rattle.fib_model.proofs.limbo.PlainLimbo.unlink_all.Goals as goal
 
 pub loop-unlinked-preserved : goal.loop-unlinked-preserved

@@ -1,6 +1,6 @@
 use Rattle.fib_model.specs.State.{Unlinks}
 use Rattle.fib_model.specs.Textbook.{textbook}
-use Rattle.fib_model.specs.Expected.{IsSound, events_of}
+use Rattle.fib_model.specs.Accounts.{IsSound, events_of}
 use Rattle.fib_model.proofs.limbo.PlainLimbo.unlink_all.Given as goal
 
 -- so many groups are unlinked

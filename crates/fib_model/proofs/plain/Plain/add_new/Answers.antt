@@ -2,7 +2,7 @@ use Rattle.std.proofs.Common.{ap, sym, ◌∙◌, refl, ◌≡◌, ◌+◌, ◌�
 use Rattle.std.specs.FinMap.{insert}
 use Rattle.fib_model.specs.declared.limbo.PlainLimbo.{PlainLimbo}
 use Rattle.fib_model.specs.declared.plain.Plain.{Plain}
-use Rattle.fib_model.specs.Expected.{events_of}
+use Rattle.fib_model.specs.Accounts.{events_of}
 use Rattle.fib_model.proofs.plain.Plain.add_new.Goals as goal
 use Rattle.fib_model.proofs.plain.Plain.add_new.Goals.{then-lacks_group+in_default, else-lacks_group}
 

@@ -5,7 +5,7 @@ use Rattle.lpm_trace.specs.declared.kind.Actor.TheVariants.{Worker as WorkerActo
 use Rattle.lpm_trace.specs.States.{state_after}
 use Rattle.lpm_trace.specs.Trace.{writes, worker_of}
 use Rattle.interleave.specs.Scripts.{IsDone, steps_by}
-use Rattle.interleave.specs.declared.shared.Shared.{Shared}
+use Rattle.interleave.specs.declared.shared_state.Shared.{Shared}
 use Rattle.interleave.specs.View.{WorldView, script_at}
 use Rattle.interleave.specs.World.{IsWorld}
 use Rattle.interleave.proofs.Turns.{view_in}

@@ -1,7 +1,7 @@
 use Rattle.std.proofs.Common.{◌+◌, length, ap, arith}
 use Rattle.bstr.proofs.lemmas.LengthLemmas.{length-lines}
 use Rattle.route_text.specs.declared.routes.Route.{Route}
-use Rattle.lpm_files.proofs.Numbered.{items_within}
+use Rattle.lpm_files.proofs.LineNumbers.{items_within}
 use Rattle.lpm_files.proofs.routes.RouteFilePiecewiseFile.append.Goals as goal
 
 pub overflow_add-route : goal.overflow_add-route

@@ -2,7 +2,7 @@ use Rattle.std.proofs.Common.{rules, ap, sym, ◌∙◌, subst, arith, ◌≡◌
 use Rattle.std.specs.Prelude.{slice_index}
 use Rattle.std.proofs.lemmas.Nat.{one_shl}
 use Rattle.lpm_cells.specs.Words.{IsLast, entry_in, with_first, with_second}
-use Rattle.lpm_update.specs.Linked.{IsLinkTo}
+use Rattle.lpm_update.specs.BlockGroups.{IsLinkTo}
 use Rattle.lpm_update.specs.Rewrite.{replaces}
 use Rattle.lpm_update.proofs.RangeSteps.{base_of, place_within, first_is_word, second_is_word, visits_first, visited_first, kept_first, visited_second, kept_second}
 use Rattle.lpm_update.proofs.rewrite_range.RewriteRange.visit.Given.{Over}

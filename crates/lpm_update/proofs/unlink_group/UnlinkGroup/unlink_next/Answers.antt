@@ -3,7 +3,7 @@ use Rattle.std.specs.Prelude.{slice_index}
 use Rattle.lpm_cells.specs.Words.{entry_in, with_first}
 use Rattle.lpm_update.specs.declared.Did.TheVariants.{Unlinked, Done}
 use Rattle.lpm_update.specs.declared.update.Plan.TheVariants.{Range, Unlink}
-use Rattle.lpm_update.specs.Linked.{IsLinkTo}
+use Rattle.lpm_update.specs.BlockGroups.{IsLinkTo}
 use Rattle.lpm_update.specs.Kinds.{IsUnlinkStore}
 use Rattle.lpm_update.specs.Step.{Steps}
 use Rattle.lpm_update.proofs.RangeSteps.{base_of, first_is_word}

@@ -2,7 +2,7 @@ use Rattle.std.proofs.Common.{arith, sym, subst, ◌+◌}
 use Rattle.lpm_rules.proofs.Views.{networks_empty}
 use Rattle.lpm_cells.specs.Words.{entry_at}
 use Rattle.lpm_update.specs.Rewrite.{Stands}
-use Rattle.lpm_update.specs.Linked.{group_at}
+use Rattle.lpm_update.specs.BlockGroups.{group_at}
 use Rattle.lpm_update.specs.Kinds.{rewrite_to_miss}
 use Rattle.lpm_update.proofs.Groups.{flushed_not}
 use Rattle.lpm_update.proofs.Begins.{stands_still, flush_best, flush_deep}

@@ -1,6 +1,6 @@
 use Rattle.std.proofs.Common.{subst}
 use Rattle.shared_fib.specs.RunningTable.{IsAtRest}
-use Rattle.shared_fib.proofs.Seated.{at_rest}
+use Rattle.shared_fib.proofs.SeatMemory.{at_rest}
 use Rattle.shared_fib.proofs.writer.Writer.table_rests.Goals as goal
 
 pub returns : goal.returns

@@ -1,8 +1,0 @@
-use Rattle.std.proofs.Common.{rules}
-use Rattle.lpm_options.proofs.asked.migrate_line.Goals as goal
-
-pub returns-in_err-old : goal.returns-in_err-old
-returns-in_err-old c = search rules
-
-pub returns : goal.returns
-returns c = search rules

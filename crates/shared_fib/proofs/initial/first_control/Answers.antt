@@ -1,5 +1,0 @@
-use Rattle.std.proofs.Common.{rules}
-use Rattle.shared_fib.proofs.initial.first_control.Goals as goal
-
-pub returns : goal.returns
-returns g c = search rules
