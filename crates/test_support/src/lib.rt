@@ -17,6 +17,6 @@ pub use routes::{
     limits, rooms,
 };
 pub use rule_lists::{
-    Drawing, Plain, are_in_order, draw, drawn_rules, hop_number, other_hop, prefix_of, probes,
+    Drawing, Plain, are_in_order, draw, drawn_rules, hop, hop_number, other_hop, prefix, probes,
     rule_of, rules_of,
 };

@@ -10,6 +10,19 @@ use std::alloc::Global;
 /// A rule as plain numbers: the bits of its prefix, its length and its next hop.
 pub type Plain = (u32, u32, u32);
 
+/// The next hop of this number, or of its last 24 bits where it has more.
+pub fn hop(number: u32) -> Hop {
+    Hop::new(number % 16_777_216).unwrap()
+}
+
+/// The prefix of these numbers, each cut to what an address has: the last bits, and the greatest length.
+pub fn prefix<const FIRST: u32, const SECOND: u32>(bits: u32, len: u32) -> Prefix<FIRST, SECOND>
+    requires { IsShape FIRST SECOND }
+{
+    let addr = (u64::from(bits) % (1u64 << (FIRST + SECOND))) as u32;
+    Prefix::new(addr, len.min(FIRST + SECOND)).unwrap()
+}
+
 /// The prefix of these numbers. `None` where there is none: bits past those of an address, or a length past their
 /// number.
 pub fn prefix_of<const FIRST: u32, const SECOND: u32>(

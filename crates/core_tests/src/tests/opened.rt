@@ -3,7 +3,7 @@
 ghost use Rattle.lpm_bits.specs.Widths.{IsShape};
 
 use super::asserts::assert_at;
-use super::table::{assert_numbers, figures, hop, prefix};
+use super::table::{assert_numbers, figures};
 use fib::Fib;
 use lpm_bits::Shape;
 use lpm_limits::{Config, Refusal};
@@ -14,7 +14,7 @@ use std::alloc::Global;
 use std::process::Abort;
 use test_support::{
     AMPLE, Change, DEEP, Drawing, HOPS, LIMITS, Plain, ROUTES, STEPS, Step, are_in_order,
-    bad_limits, drawn_rules, limits, probes, rooms, rule_of, rules_of,
+    bad_limits, drawn_rules, hop, limits, prefix, probes, rooms, rule_of, rules_of,
 };
 
 // The table that opens with these rules, which are in order and fit.
@@ -52,9 +52,9 @@ fn assert_routes(rt: &impl Abort, fib: &Fib<24, 8>, versions: u64) {
     if fib.config().workers > 0 {
         assert_at(rt, "worker", fib.is_online(0), false);
     }
-    let twice = fib.get(&prefix(rt, 0x0a01_0000, 16));
-    let none = fib.get(&prefix(rt, 0x0a01_0000, 17));
-    assert_at(rt, "rules", [twice, none], [Some(hop(rt, 4)), None]);
+    let twice = fib.get(&prefix(0x0a01_0000, 16));
+    let none = fib.get(&prefix(0x0a01_0000, 17));
+    assert_at(rt, "rules", [twice, none], [Some(hop(4)), None]);
     assert_numbers(rt, "routes", fib, &HOPS);
 }
 
@@ -112,9 +112,9 @@ fn routes_as_the_greatest_version(rt: HostRuntime) {
 }
 
 fn assert_full_of_versions(rt: &impl Abort, fib: &mut Fib<24, 8>) {
-    let route = prefix(rt, 0x0a00_0000, 8);
-    let same = fib.add(&route, hop(rt, 2));
-    let other = fib.add(&route, hop(rt, 3));
+    let route = prefix(0x0a00_0000, 8);
+    let same = fib.add(&route, hop(2));
+    let other = fib.add(&route, hop(3));
     let wanted = [Ok(Put::Unchanged), Err(Refusal::Exhausted)];
     assert_at(rt, "the same rule, another hop", [same, other], wanted);
     assert_routes(rt, fib, 1 << 61);
@@ -182,7 +182,7 @@ fn small_table(rt: &impl Abort, alloc: Global, config: Config, plain: &[Plain]) 
 // The table that opens with the deep rules refuses another one.
 fn assert_full(rt: &impl Abort, alloc: Global, config: Config, refusal: Refusal) {
     let mut full = small_table(rt, alloc, config, &DEEP);
-    let refused = full.add(&prefix(rt, 0x60, 8), hop(rt, 9));
+    let refused = full.add(&prefix(0x60, 8), hop(9));
     assert_at(rt, config, refused, Err(refusal));
 }
 

@@ -4,7 +4,7 @@ use super::asserts::{assert_at, assert_shown};
 use super::cases::{LOOKUPS, UPDATES, Worked};
 use fib::{Fib, Replay};
 use fib_model::{Account, Order, Outcome, expected};
-use lpm_bits::{Hop, Prefix, Shape};
+use lpm_bits::{Hop, Shape};
 use lpm_groups::Counts;
 use lpm_limits::{BadConfig, Busy, Config, Refusal};
 use lpm_rules::Put;
@@ -14,21 +14,7 @@ use std::alloc::{AllocError, Global};
 use std::net::Ipv4Addr;
 use std::process::Abort;
 use std::test::Fail;
-use test_support::{Row, USUAL, draw, hop_number, limits, other_hop, prefix_of};
-
-pub(crate) fn prefix<const FIRST: u32, const SECOND: u32>(
-    rt: &impl Abort,
-    bits: u32,
-    len: u32,
-) -> Prefix<FIRST, SECOND>
-    requires { IsShape FIRST SECOND }
-{
-    prefix_of(bits, len).expect(rt, "a prefix")
-}
-
-pub(crate) fn hop(rt: &impl Abort, number: u32) -> Hop {
-    Hop::new(number).expect(rt, "a next hop")
-}
+use test_support::{Row, USUAL, draw, hop, hop_number, limits, other_hop, prefix};
 
 /// The rules, versions, groups in use, groups in limbo, free groups and the token number.
 pub(crate) type Figures = (usize, u64, usize, usize, usize, u64);
@@ -180,7 +166,7 @@ fn update_cases(rt: HostRuntime) {
 fn block_of_rules(rt: &impl Abort, alloc: Global) -> Vec<Order<24, 8>> {
     let mut orders = Vec::new(alloc);
     for last in 0..256u32 {
-        let order = Order::Add(prefix(rt, 0x0a00_0000 | last, 32), hop(rt, 9));
+        let order = Order::Add(prefix(0x0a00_0000 | last, 32), hop(9));
         orders.push(order).expect(rt, "memory");
     }
     orders
@@ -197,10 +183,10 @@ fn full_block(rt: HostRuntime) {
 }
 
 // A order to a small table: of 28 prefixes, four next hops, two workers and one that isn't there.
-fn draw_order(rt: &impl Abort, seed: &mut u32) -> Order<4, 4> {
+fn draw_order(seed: &mut u32) -> Order<4, 4> {
     let kind = draw(seed) % 20;
     let number = draw(seed) % 3;
-    let prefix = prefix(rt, draw(seed) % 64, 4 + draw(seed) % 3);
+    let prefix = prefix(draw(seed) % 64, 4 + draw(seed) % 3);
     match kind {
         0 => Order::Flush,
         1 => Order::Reclaim(number as usize),
@@ -208,14 +194,14 @@ fn draw_order(rt: &impl Abort, seed: &mut u32) -> Order<4, 4> {
         4 => Order::Offline(number),
         5 => Order::Quiescent(number),
         6..=11 => Order::Del(prefix),
-        _ => Order::Add(prefix, hop(rt, draw(seed) % 4)),
+        _ => Order::Add(prefix, hop(draw(seed) % 4)),
     }
 }
 
 // The next hop of the longest rule that covers the address, found by the rules alone.
-fn hop_by_rules(rt: &impl Abort, fib: &Fib<4, 4>, addr: u32) -> Option<Hop> {
+fn hop_by_rules(fib: &Fib<4, 4>, addr: u32) -> Option<Hop> {
     for shorter in 0..=8u32 {
-        if let Some(hop) = fib.get(&prefix(rt, addr, 8 - shorter)) {
+        if let Some(hop) = fib.get(&prefix(addr, 8 - shorter)) {
             return Some(hop);
         }
     }
@@ -225,7 +211,7 @@ fn hop_by_rules(rt: &impl Abort, fib: &Fib<4, 4>, addr: u32) -> Option<Hop> {
 // Each lookup answers what the rules alone say.
 fn assert_lookups(rt: &impl Abort, fib: &Fib<4, 4>) {
     for addr in 0..256u32 {
-        assert_at(rt, addr, fib.lookup(addr), hop_by_rules(rt, fib, addr));
+        assert_at(rt, addr, fib.lookup(addr), hop_by_rules(fib, addr));
     }
 }
 
@@ -248,7 +234,7 @@ fn assert_drawn(rt: &impl Abort, alloc: Global, orders: &[Order<4, 4>]) {
 // Draws five more orders.
 fn draw_more(rt: &impl Abort, seed: &mut u32, orders: &mut Vec<Order<4, 4>>) {
     for _ in 0..5 {
-        orders.push(draw_order(rt, seed)).expect(rt, "memory");
+        orders.push(draw_order(seed)).expect(rt, "memory");
     }
 }
 
@@ -274,9 +260,9 @@ const FOUR: [u32; 4] = [0x0a01_0180, 0x0b00_0000, 0x0a01_017f, 0x0a02_0000];
 static NUMBERS: [Option<u32>; 4] = [Some(3), None, Some(2), Some(1)];
 
 fn assert_reads(rt: &impl Abort, fib: &Fib<24, 8>) {
-    let route = prefix(rt, 0x0a01_0000, 16);
-    let other = prefix(rt, 0x0b00_0000, 8);
-    assert_at(rt, "its rule", fib.get(&route), Some(hop(rt, 2)));
+    let route = prefix(0x0a01_0000, 16);
+    let other = prefix(0x0b00_0000, 8);
+    assert_at(rt, "its rule", fib.get(&route), Some(hop(2)));
     assert_at(rt, "covered", fib.prefetch(&route), true);
     assert_at(rt, "uncovered", fib.prefetch(&other), false);
     assert_at(rt, "lookup4", fib.lookup4(FOUR, 99), [3, 99, 2, 1]);
@@ -335,26 +321,26 @@ fn configs(rt: HostRuntime) {
 
 // Worker 0 holds the group of a rule that came and went.
 fn hold_a_group(rt: &impl Abort, fib: &mut Fib<24, 8>) {
-    let route = prefix(rt, 0x0a00_0000, 25);
+    let route = prefix(0x0a00_0000, 25);
     if fib.config().workers > 0 && !fib.is_online(0) {
         fib.online(0);
     }
-    assert_at(rt, "it comes", fib.add(&route, hop(rt, 1)), Ok(Put::Added));
-    assert_at(rt, "it goes", fib.delete(&route), Ok(hop(rt, 1)));
+    assert_at(rt, "it comes", fib.add(&route, hop(1)), Ok(Put::Added));
+    assert_at(rt, "it goes", fib.delete(&route), Ok(hop(1)));
 }
 
 // A rule in another block finds no group, and everything stays as it was.
 fn assert_refused(rt: &impl Abort, fib: &mut Fib<24, 8>) {
-    let route = prefix(rt, 0x0a00_0100, 25);
+    let route = prefix(0x0a00_0100, 25);
     let before = figures(fib);
     let oldest = Some(Busy {
         worker: 0,
         counter: 1,
     });
     let refused = Err(Refusal::NoGroups { oldest });
-    assert_at(rt, "an add", fib.add(&route, hop(rt, 2)), refused);
+    assert_at(rt, "an add", fib.add(&route, hop(2)), refused);
     assert_at(rt, "counts", figures(fib), before);
-    assert_at(rt, "lookup", fib.lookup(0x0a00_0100), Some(hop(rt, 7)));
+    assert_at(rt, "lookup", fib.lookup(0x0a00_0100), Some(hop(7)));
     assert_at(rt, "rule", fib.get(&route), None);
 }
 
@@ -362,8 +348,8 @@ fn assert_refused(rt: &impl Abort, fib: &mut Fib<24, 8>) {
 #[test]
 fn a_refusal_changes_nothing(rt: HostRuntime) -> Result<(), Fail> {
     let mut fib = Fib::<24, 8>::open(rt.alloc(), limits(1_048_576, 1))?;
-    let cover = prefix(&rt, 0x0a00_0000, 8);
-    let added = fib.add(&cover, hop(&rt, 7));
+    let cover = prefix(0x0a00_0000, 8);
+    let added = fib.add(&cover, hop(7));
     assert_at(&rt, "cover", added, Ok(Put::Added));
     hold_a_group(&rt, &mut fib);
     assert_refused(&rt, &mut fib);
@@ -372,17 +358,17 @@ fn a_refusal_changes_nothing(rt: HostRuntime) -> Result<(), Fail> {
 
 // The rule is added, at the latest by the second try; the first, where it's refused, changes nothing.
 fn assert_grows(rt: &impl Abort, fib: &mut Fib<4, 4>) {
-    let route = prefix(rt, 0x12, 8);
+    let route = prefix(0x12, 8);
     let before = (0, 0, 0, 0, 2, 1);
-    if fib.add(&route, hop(rt, 3)) == Err(Refusal::Memory) {
+    if fib.add(&route, hop(3)) == Err(Refusal::Memory) {
         let found = (fib.get(&route), fib.lookup(0x12));
         assert_at(rt, "refused", figures(fib), before);
         assert_at(rt, "no rule", found, (None, None));
-        assert_at(rt, "again", fib.add(&route, hop(rt, 3)), Ok(Put::Added));
+        assert_at(rt, "again", fib.add(&route, hop(3)), Ok(Put::Added));
     }
     let counts = (fib.rules(), fib.versions(), fib.token());
     assert_at(rt, "rules, versions, token", counts, (1, 1, 1));
-    assert_at(rt, "lookup", fib.lookup(0x12), Some(hop(rt, 3)));
+    assert_at(rt, "lookup", fib.lookup(0x12), Some(hop(3)));
 }
 
 // A growth that is refused leaves everything as it was, and the same addition then succeeds. Memory runs

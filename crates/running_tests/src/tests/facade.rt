@@ -8,8 +8,8 @@ mod single;
 mod walk;
 
 use super::asserts::assert_at;
-use saxiko::{Config, Hop, Prefix, Rule};
-use std::process::Abort;
+use saxiko::{Config, Rule};
+use test_support::{hop, prefix};
 
 /// Four groups, and two workers.
 fn limits() -> Config {
@@ -20,23 +20,15 @@ fn limits() -> Config {
     }
 }
 
-fn prefix(rt: &impl Abort, bits: u32, len: u32) -> Prefix {
-    Prefix::new(bits, len).expect(rt, "a length")
-}
-
-fn hop(rt: &impl Abort, number: u32) -> Hop {
-    Hop::new(number).expect(rt, "a next hop")
-}
-
 /// The rule of this prefix and next hop.
-fn rule(rt: &impl Abort, bits: u32, len: u32, number: u32) -> Rule {
+fn rule(bits: u32, len: u32, number: u32) -> Rule {
     Rule {
-        prefix: prefix(rt, bits, len),
-        hop: hop(rt, number),
+        prefix: prefix(bits, len),
+        hop: hop(number),
     }
 }
 
 /// 10.1.128.128/25 to next hop 2, and 10.0.0.0/8 to next hop 1.
-fn two_rules(rt: &impl Abort) -> [Rule; 2] {
-    [rule(rt, 0x0a01_8080, 25, 2), rule(rt, 0x0a00_0000, 8, 1)]
+fn two_rules() -> [Rule; 2] {
+    [rule(0x0a01_8080, 25, 2), rule(0x0a00_0000, 8, 1)]
 }

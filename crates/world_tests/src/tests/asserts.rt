@@ -1,6 +1,5 @@
 // What the tests assert by. A function is proved once, and a macro at each place where it stands.
 
-use super::plan::hop;
 use defer_queue::Reclaimed;
 use interleave::{Reply, Seen, Trace};
 use lpm_limits::Refusal;
@@ -8,6 +7,7 @@ use lpm_rules::Put;
 use lpm_trace::{Actor, Kind, Step};
 use std::fmt::Debug;
 use std::process::Abort;
+use test_support::hop;
 
 pub(crate) const WRITER: Actor = Actor::Writer;
 
@@ -59,10 +59,10 @@ pub(crate) enum Answer {
 }
 
 impl Answer {
-    fn reply(self, rt: &impl Abort) -> Reply {
+    fn reply(self) -> Reply {
         match self {
             Answer::Put(put) => Reply::Put(put),
-            Answer::Deleted(number) => Reply::Deleted(hop(rt, number)),
+            Answer::Deleted(number) => Reply::Deleted(hop(number)),
             Answer::Flushed(rules) => Reply::Flushed(rules),
             Answer::Reclaimed(reclaimed) => Reply::Reclaimed(reclaimed),
             Answer::Synchronized => Reply::Synchronized,
@@ -80,7 +80,7 @@ pub(crate) fn assert_reply(
     answer: Answer,
 ) {
     let found = replies.get(place).copied();
-    assert_at(rt, (name, "reply", place), found, Some(answer.reply(rt)));
+    assert_at(rt, (name, "reply", place), found, Some(answer.reply()));
 }
 
 pub(crate) fn assert_replies(rt: &impl Abort, name: &str, replies: &[Reply], answers: &[Answer]) {
@@ -94,12 +94,12 @@ pub(crate) fn assert_replies(rt: &impl Abort, name: &str, replies: &[Reply], ans
 // and `lo` and `hi`.
 pub(crate) type Looked = (u32, Option<u32>, (usize, usize), (u64, u64));
 
-fn seen(rt: &impl Abort, looked: &Looked) -> Seen {
+fn seen(looked: &Looked) -> Seen {
     let (addr, found, reads, versions) = *looked;
     Seen {
         worker: 0,
         addr,
-        hop: found.map(|number| hop(rt, number)),
+        hop: found.map(|number| hop(number)),
         first: reads.0,
         last: reads.1,
         lo: versions.0,
@@ -110,7 +110,7 @@ fn seen(rt: &impl Abort, looked: &Looked) -> Seen {
 fn assert_lookups(rt: &impl Abort, name: &str, lookups: &[Seen], wanted: &[Looked]) {
     for (place, looked) in wanted.iter().enumerate() {
         let found = lookups.get(place).copied();
-        assert_at(rt, (name, "lookup", place), found, Some(seen(rt, looked)));
+        assert_at(rt, (name, "lookup", place), found, Some(seen(looked)));
     }
     assert_at(rt, (name, "lookups"), lookups.len(), wanted.len());
 }

@@ -6,7 +6,6 @@ ghost use Rattle.interleave.specs.Scripts.{IsSound};
 
 use super::asserts::assert_at;
 use interleave::{RunError, Trace, World, script_ok};
-use lpm_bits::{Hop, Prefix};
 use lpm_limits::Config;
 use lpm_rules::Change;
 use lpm_trace::{Actor, Deed};
@@ -15,7 +14,7 @@ use std::fmt::Debug;
 use std::process::Abort;
 use std::test::Fail;
 use test_support::plans::Plan;
-use test_support::{Edit, USUAL, prefix_of};
+use test_support::{Edit, USUAL};
 use world_reference::{JudgeError, judge};
 
 // One group and one worker; all else by default.
@@ -58,14 +57,6 @@ pub(crate) fn run<const FIRST: u32, const SECOND: u32>(
         &plan.scripts,
         &plan.schedule,
     )
-}
-
-pub(crate) fn prefix(rt: &impl Abort, bits: u32, len: u32) -> Prefix<4, 4> {
-    prefix_of(bits, len).expect(rt, "a prefix")
-}
-
-pub(crate) fn hop(rt: &impl Abort, number: u32) -> Hop {
-    Hop::new(number).expect(rt, "a next hop")
 }
 
 fn changes_of(

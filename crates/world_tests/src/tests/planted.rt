@@ -1,6 +1,6 @@
 // Runs in which one thing is wrong, which the slow program refuses.
 
-use super::plan::{ONE_GROUP, TWO_GROUPS, assert_refused, hop, judged, planned, prefix};
+use super::plan::{ONE_GROUP, TWO_GROUPS, assert_refused, judged, planned};
 use interleave::Trace;
 use lpm_limits::Config;
 use lpm_rules::Change;
@@ -8,8 +8,8 @@ use lpm_trace::{Actor, Deed, Kind, Step};
 use std::alloc::Global;
 use std::process::Abort;
 use std::test::Fail;
-use test_support::Edit;
 use test_support::plans::Plan;
+use test_support::{Edit, hop, prefix};
 use world_reference::JudgeError;
 
 // What is wrong with a run.
@@ -185,14 +185,13 @@ static OTHERS: [(Other, usize, usize, JudgeError); 3] = [
     (Other::Hop, 1, 19, JudgeError::Writes),
 ];
 
-fn change_plan(rt: &impl Abort, plan: &mut Plan<4, 4>, other: Other) -> Result<(), Fail> {
+fn change_plan(plan: &mut Plan<4, 4>, other: Other) -> Result<(), Fail> {
     match other {
         Other::Threshold => plan.config.threshold = 1,
         Other::Item => plan.schedule.push(Actor::Writer)?,
         Other::Hop => {
             plan.changes.clear();
-            plan.changes
-                .push(Change::Add(prefix(rt, 0x12, 8), hop(rt, 6)))?;
+            plan.changes.push(Change::Add(prefix(0x12, 8), hop(6)))?;
         }
     }
     Ok(())
@@ -209,7 +208,7 @@ fn assert_of_its_plan(
 ) -> Result<(), Fail> {
     let mut plan = planned(rt, alloc, ONE_WAITS, edits, &[Deed::Online], bursts)?;
     let trace = judged(rt, alloc, 0, &plan)?;
-    change_plan(rt, &mut plan, other)?;
+    change_plan(&mut plan, other)?;
     assert_refused(rt, other, &plan, (alloc, &trace), error);
     Ok(())
 }

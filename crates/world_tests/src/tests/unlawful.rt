@@ -1,7 +1,7 @@
 // Runs that follow their schedules and break one law of traces, which the slow program refuses by that law.
 
 use super::asserts::assert_at;
-use super::plan::{ONE_GROUP, TWO_GROUPS, assert_refused, hop, judged, planned, planned_for, run};
+use super::plan::{ONE_GROUP, TWO_GROUPS, assert_refused, judged, planned, planned_for, run};
 use super::planted::exchange;
 use interleave::Seen;
 use lpm_limits::Config;
@@ -9,8 +9,8 @@ use lpm_trace::{Actor, Deed, Kind, Step};
 use std::alloc::Global;
 use std::process::Abort;
 use std::test::Fail;
-use test_support::Edit;
 use test_support::plans::Plan;
+use test_support::{Edit, hop};
 use world_reference::{JudgeError, judge};
 
 const TWO_WORKERS: Config = Config {
@@ -171,7 +171,7 @@ fn judged_offline(
     trace.lookups.push(Seen {
         worker: 0,
         addr,
-        hop: found.map(|number| hop(rt, number)),
+        hop: found.map(|number| hop(number)),
         first: 21,
         last: 47,
         lo: 1,

@@ -1,8 +1,9 @@
 //! Grace periods that don't block.
 
-use super::{assert_at, hop, limits, prefix};
+use super::{assert_at, limits};
 use saxiko::{Busy, Config, GracePeriod, Owner, Put};
 use std::process::Abort;
+use test_support::{hop, prefix};
 
 fn started(rt: &impl Abort, owner: Owner) -> GracePeriod {
     owner.start().ok().expect(rt, "start")
@@ -27,7 +28,7 @@ fn held(rt: &impl Abort, period: GracePeriod) -> GracePeriod {
 #[test]
 fn a_grace_period_lasts_until_its_reader_has_reported(rt: HostRuntime) {
     let mut owner = Owner::open(rt.alloc(), limits()).expect(&rt, "open");
-    let (prefix, hop) = (prefix(&rt, 0x0a01_8080, 25), hop(&rt, 7));
+    let (prefix, hop) = (prefix(0x0a01_8080, 25), hop(7));
     assert_at(&rt, "added", owner.add(&prefix, hop), Ok(Put::Added));
     let mut reader = owner.register(1).expect(&rt, "register");
     reader.online();

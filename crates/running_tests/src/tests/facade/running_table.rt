@@ -1,12 +1,13 @@
 //! The running table.
 
-use super::{assert_at, hop, limits, prefix, two_rules};
+use super::{assert_at, limits, two_rules};
 use saxiko::{Owner, Put, Reader, Refusal};
 use std::process::Abort;
+use test_support::{hop, prefix};
 
 // The reader finds the rule while it holds the rule's group.
 fn add_and_delete(rt: &impl Abort, owner: &mut Owner, reader: &mut Reader) {
-    let (prefix, hop) = (prefix(rt, 0x0a01_8080, 25), hop(rt, 7));
+    let (prefix, hop) = (prefix(0x0a01_8080, 25), hop(7));
     let added = owner.add(&prefix, hop);
     assert_at(rt, "added", added, Ok(Put::Added));
     reader.online();
@@ -58,18 +59,18 @@ fn look_up(rt: &impl Abort, owner: &mut Owner, reader: &mut Reader) {
     let first = [2, 9, 1, 2, 1, 9, 7, 7];
     assert_burst(rt, reader, &mut hops, (&ADDRS, 9, 0), first);
     let found = owner.lookup_rule(0x0a01_8081);
-    let [long, _] = two_rules(rt);
+    let [long, _] = two_rules();
     assert_at(rt, "rule", found, Some(long));
-    let wide = prefix(rt, 0x0a00_0000, 8);
-    let put = owner.insert(&wide, hop(rt, 2));
-    assert_at(rt, "put", put, Ok(Some(hop(rt, 1))));
+    let wide = prefix(0x0a00_0000, 8);
+    let put = owner.insert(&wide, hop(2));
+    assert_at(rt, "put", put, Ok(Some(hop(1))));
     let second = [2, 8, 1, 2, 1, 9, 7, 7];
     assert_burst(rt, reader, &mut hops, (&ADDRS[4..], 8, 1), second);
 }
 
 #[test]
 fn a_burst_is_answered_between_two_versions(rt: HostRuntime) {
-    let opened = Owner::load(rt.alloc(), limits(), &two_rules(&rt));
+    let opened = Owner::load(rt.alloc(), limits(), &two_rules());
     let mut owner = opened.expect(&rt, "open").expect(&rt, "fits");
     let mut reader = owner.register(0).expect(&rt, "register");
     look_up(&rt, &mut owner, &mut reader);

@@ -1,14 +1,15 @@
 //! The table of one thread.
 
-use super::{assert_at, hop, limits, prefix, two_rules};
+use super::{assert_at, limits, two_rules};
 use saxiko::{Hop, ParseError, Prefix, Put, Refusal, Rule, Table};
 use std::alloc::Global;
 use std::convert::AsStr;
 use std::net::Ipv4Addr;
 use std::process::Abort;
+use test_support::{hop, prefix};
 
 fn add_and_delete(rt: &impl Abort, table: &mut Table) {
-    let (prefix, hop) = (prefix(rt, 0x0a01_8080, 9), hop(rt, 7));
+    let (prefix, hop) = (prefix(0x0a01_8080, 9), hop(7));
     let added = table.add(&prefix, hop);
     assert_at(rt, "added", added, Ok(Put::Added));
     let hops = [table.lookup(0x0a00_0001), table.lookup(0x0a80_0001)];
@@ -43,7 +44,7 @@ fn look_up(rt: &impl Abort, table: &Table, rules: &[Rule; 2]) {
 
 #[test]
 fn a_table_of_rules_answers_in_bulk(rt: HostRuntime) {
-    let rules = two_rules(&rt);
+    let rules = two_rules();
     let opened = Table::load(rt.alloc(), limits(), &rules);
     let table = opened.expect(&rt, "open").expect(&rt, "fits");
     look_up(&rt, &table, &rules);
@@ -64,21 +65,21 @@ fn assert_written(rt: &impl Abort, alloc: Global, prefix: Prefix, text: &str) {
 
 #[test]
 fn texts_are_read_and_written(rt: HostRuntime) {
-    let kept = prefix(&rt, 0x0a01_0200, 25);
+    let kept = prefix(0x0a01_0200, 25);
     assert_at(&rt, "read", "10.1.2.3/25".parse::<Prefix>(), Ok(kept));
     assert_written(&rt, rt.alloc(), kept, "10.1.2.0/25");
     for (text, error) in &NO_PREFIXES {
         assert_at(&rt, *text, text.parse::<Prefix>(), Err(*error));
     }
     let hops = ["7".parse::<Hop>(), "16777216".parse::<Hop>()];
-    let wanted = [Ok(hop(&rt, 7)), Err(ParseError::BadHop)];
+    let wanted = [Ok(hop(7)), Err(ParseError::BadHop)];
     assert_at(&rt, "hops", hops, wanted);
 }
 
 #[test]
 fn prefixes_are_of_addresses(rt: HostRuntime) {
     let found = Prefix::of_ipv4(Ipv4Addr::new(10, 1, 2, 3), 25).ok();
-    let kept = prefix(&rt, 0x0a01_0200, 25);
+    let kept = prefix(0x0a01_0200, 25);
     assert_at(&rt, "prefix", found, Some(kept));
     let past = Prefix::of_ipv4(Ipv4Addr::BROADCAST, 33).is_err();
     let found = (kept.to_ipv4() == Ipv4Addr::new(10, 1, 2, 0), past);

@@ -1,9 +1,10 @@
 //! Walks over all rules in the order of their prefixes.
 
-use super::{assert_at, hop};
+use super::assert_at;
 use saxiko::{Config, Owner, Prefix, Put, Rule, Table};
 use std::alloc::Global;
 use std::process::Abort;
+use test_support::hop;
 
 fn prefix(rt: &impl Abort, text: &str) -> Prefix {
     text.parse::<Prefix>().expect(rt, "prefix")
@@ -12,7 +13,7 @@ fn prefix(rt: &impl Abort, text: &str) -> Prefix {
 fn rule(rt: &impl Abort, text: &str, number: u32) -> Rule {
     Rule {
         prefix: prefix(rt, text),
-        hop: hop(rt, number),
+        hop: hop(number),
     }
 }
 
@@ -59,7 +60,7 @@ fn walk_between(rt: &impl Abort, table: &mut Table, eighth: &Rule, ninth: &Rule)
     let between = prefix(rt, "10.0.0.64/26");
     assert_at(rt, "before", table.next_rule(Some(between)), Some(*eighth));
     let gone = prefix(rt, "10.0.0.128/25");
-    assert_at(rt, "deleted", table.delete(&gone), Ok(hop(rt, 8)));
+    assert_at(rt, "deleted", table.delete(&gone), Ok(hop(8)));
     assert_at(rt, "after", table.next_rule(Some(between)), Some(*ninth));
     let behind = prefix(rt, "10.0.0.128/25");
     assert_at(rt, "behind", table.next_rule(Some(behind)), Some(*ninth));
