@@ -62,5 +62,6 @@ pub(crate) fn take<M: Memory>(
         return Ok(group);
     }
     let reclaimed = free_waiting(pool, memory, 1);
-    pool.groups.take_least(block).ok_or(reclaimed.stopped)
+    let found = pool.groups.take_least(block);
+    found.ok_or(reclaimed.stopped)
 }

@@ -1,9 +1,10 @@
-use Rattle.std.proofs.Common.{◌≡◌, ◌+◌, ◌^◌, ◌<◌, inl, lit<, refl, sym, ap, subst, ◌∙◌, List, length, rules}
+use Rattle.std.proofs.Common.{◌≡◌, ◌≢◌, ◌+◌, ◌^◌, ◌<◌, inl, lit<, refl, sym, ap, subst, ◌∙◌, List, length, rules}
 use Rattle.std.specs.Prelude.{IsSome, IsTrue, ◌↔◌, ◌/◌, Ok, Err}
 use Rattle.std.proofs.lemmas.Nat.{shr_below}
 use Rattle.lpm_bits.specs.Network.{IsNetwork}
 use Rattle.lpm_cells.specs.Words.{Words, IsWords}
 use Rattle.lpm_rules.specs.RuleMap.{RuleList}
+use Rattle.lpm_rules.specs.declared.Put.TheVariants.{Unchanged}
 use Rattle.lpm_limits.specs.declared.refusal.Refusal.TheVariants.{NoGroups}
 use Rattle.fib_model.specs.Outcomes.{Adds, groups_in_use}
 use Rattle.fib_model.specs.State.{HasTokens}
@@ -101,6 +102,7 @@ added g c = λ initial steps did rest.
     let new = c.change.new.control in
     let then = c.change.ensures in
     let put = c.in-Ok.ensures in
+    let changed : c.in-Ok.put ≢ Unchanged = search rules in
     let low = shr_below p.bits f s c.bits-bits.ensures.network.1 in
     let at : After-add-update g = search in
     let d = ready g at (Puts p.bits p.len c.args.hop) refl initial steps did rest in
@@ -112,7 +114,7 @@ added g c = λ initial steps did rest.
       made.2,
       subst (λ y. Adds t f s l.config (state_of l.rules.rules (y, steps) l.pool l.versions) p c.args.hop (Ok c.in-Ok.put) (state_of new.rules.rules (z, made.0) new.pool new.versions)) c.is_linked-linked.ensures.same
           (found_adds f s initial steps l.config l.rules l.pool l.versions rest p low t x c.args.hop c.in-Ok.put c.in-Ok-group_for.group (c.group_for.new.memory, d.0) (z, made.0) c.group_for.new.pool new.pool new.rules new.versions
-          d.3 made.3 linked put_in then.versions c.in_default-put.not-Unchanged put.replaced.0 (λ e. put.new.0 (inl e)) d.4),
+          d.3 made.3 linked put_in then.versions changed put.replaced.0 (λ e. put.new.0 (inl e)) d.4),
     )
 
 added_least : (g : Over) (c : After-change g) → LinksLeast c.args.control.now.pool.groups c.change.new.control.pool.groups
@@ -187,9 +189,3 @@ returns-in-Err-clause-adds g c = λ initial steps did rest.
 
 pub returns-in-Err-clause-least : goal.returns-in-Err-clause-least
 returns-in-Err-clause-least g c = c.in-Err.ensures.least
-
-pub returns-in_default-clause-adds : goal.returns-in_default-clause-adds
-returns-in_default-clause-adds g c = search rules
-
-pub returns-in-Unchanged-clause-adds : goal.returns-in-Unchanged-clause-adds
-returns-in-Unchanged-clause-adds g c = search rules

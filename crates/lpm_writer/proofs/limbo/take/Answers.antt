@@ -8,7 +8,7 @@ use Rattle.lpm_writer.specs.Limbo.{IsQueued, IsTaken}
 use Rattle.lpm_writer.proofs.LimboItems.{taken_from, taken_queue, least_linked, no_tail, may_reclaim}
 use Rattle.lpm_writer.proofs.Takes.{HasReclaimed, HasTakenLeast, took_none, takes_free, takes_oldest, oldest_linked, oldest_least, oldest_unchanged, oldest_queued}
 use Rattle.lpm_writer.proofs.limbo.take.Given.{Over}
-use Rattle.lpm_writer.proofs.limbo.take.Goals.{After-take_least, After-free_waiting-reclaimed, After-ok_or}
+use Rattle.lpm_writer.proofs.limbo.take.Goals.{After-free_waiting-reclaimed, After-ok_or}
 use Rattle.lpm_writer.proofs.limbo.take.Goals as goal
 
 -- a group that was free is taken
@@ -66,42 +66,103 @@ oldest g c =
     })
 
 -- then the least that was free by then was taken, or none was
-took : (g : Over) (c : After-ok_or g) → HasTakenLeast c.free_waiting-reclaimed.new.pool.groups c.args.block c.take_least-2.result c.take_least-2.new.self
-took g c = let e = c.take_least-2.ensures in record { least = e.least; linked = e.linked; none = e.none; unchanged = e.unchanged }
+took : (g : Over) (c : After-ok_or g) → HasTakenLeast c.free_waiting-reclaimed.new.pool.groups c.args.block c.take_least-found.result c.take_least-found.new.self
+took g c = let e = c.take_least-found.ensures in record { least = e.least; linked = e.linked; none = e.none; unchanged = e.unchanged }
 
-pub returns-clause-takes : goal.returns-clause-takes
-returns-clause-takes g c =
+-- what the contract says of it, clause by clause
+abbrev TakesOldest : (g : Over) → After-ok_or g → Type 0
+TakesOldest g c =
+    let r = c.free_waiting-reclaimed in
+    let y = record r.new.pool { groups = c.take_least-found.new.self } in
+    TakesAt g.M.Memory.did c.args.memory.now c.args.pool.now r.new.memory y (taken_by c.ok_or.result) (λ s a z. Takes (by_writer g.M.Memory.does s) a c.args.pool.now c.ok_or.result z y)
+
+takes : (g : Over) (c : After-ok_or g) → TakesOldest g c
+takes g c =
     let x = c.args.pool.now in
     let r = c.free_waiting-reclaimed in
-    let y = record r.new.pool { groups = c.take_least-2.new.self } in
-    let at = (goal.at.returns-clause-takes g c).After-free_waiting-reclaimed in
+    let y = record r.new.pool { groups = c.take_least-found.new.self } in
+    let at : After-free_waiting-reclaimed g = search in
     subst (λ found. TakesAt g.M.Memory.did c.args.memory.now x r.new.memory y (taken_by found) (λ s a z. Takes (by_writer g.M.Memory.does s) a x found z y)) (sym c.ok_or.ensures.value)
-    (takes_oldest g.M.Memory.did g.M.Memory.does c.args.memory.now x r.new.memory r.new.pool r.result.freed r.result.stopped (oldest g at) c.args.block c.take_least-2.new.self c.take_least-2.result (took g c))
+    (takes_oldest g.M.Memory.did g.M.Memory.does c.args.memory.now x r.new.memory r.new.pool r.result.freed r.result.stopped (oldest g at) c.args.block c.take_least-found.new.self c.take_least-found.result (took g c))
 
-pub returns-clause-linked : goal.returns-clause-linked
-returns-clause-linked g c =
+abbrev LinksOldest : (g : Over) → After-ok_or g → Type 0
+LinksOldest g c = IfOk c.ok_or.result (λ n. IsTaken c.args.pool.now.groups n c.args.block c.take_least-found.new.self)
+
+links : (g : Over) (c : After-ok_or g) → LinksOldest g c
+links g c =
     let x = c.args.pool.now in
     let r = c.free_waiting-reclaimed in
-    let at = (goal.at.returns-clause-linked g c).After-free_waiting-reclaimed in
-    subst (λ found. IfOk found (λ n. IsTaken x.groups n c.args.block c.take_least-2.new.self)) (sym c.ok_or.ensures.value)
-    (oldest_linked g.M.Memory.did g.M.Memory.does c.args.memory.now x r.new.memory r.new.pool r.result.freed r.result.stopped (oldest g at) c.args.block c.take_least-2.new.self c.take_least-2.result (took g c))
+    let at : After-free_waiting-reclaimed g = search in
+    subst (λ found. IfOk found (λ n. IsTaken x.groups n c.args.block c.take_least-found.new.self)) (sym c.ok_or.ensures.value)
+    (oldest_linked g.M.Memory.did g.M.Memory.does c.args.memory.now x r.new.memory r.new.pool r.result.freed r.result.stopped (oldest g at) c.args.block c.take_least-found.new.self c.take_least-found.result (took g c))
 
-pub returns-clause-least : goal.returns-clause-least
-returns-clause-least g c =
+least : (g : Over) (c : After-ok_or g) → LinksLeast c.args.pool.now.groups c.take_least-found.new.self
+least g c =
     let r = c.free_waiting-reclaimed in
-    let at = (goal.at.returns-clause-least g c).After-free_waiting-reclaimed in
-    oldest_least g.M.Memory.did g.M.Memory.does c.args.memory.now c.args.pool.now r.new.memory r.new.pool r.result.freed r.result.stopped (oldest g at) c.args.block c.take_least-2.new.self c.take_least-2.result (took g c)
+    let at : After-free_waiting-reclaimed g = search in
+    oldest_least g.M.Memory.did g.M.Memory.does c.args.memory.now c.args.pool.now r.new.memory r.new.pool r.result.freed r.result.stopped (oldest g at) c.args.block c.take_least-found.new.self c.take_least-found.result (took g c)
 
-pub returns-clause-unchanged : goal.returns-clause-unchanged
-returns-clause-unchanged g c =
+abbrev StaysWhole : (g : Over) → After-ok_or g → Type 0
+StaysWhole g c = OnErr c.ok_or.result ((c.take_least-found.new.self ≡ c.args.pool.now.groups) × (c.free_waiting-reclaimed.new.pool.queue ≡ c.args.pool.now.queue))
+
+stays : (g : Over) (c : After-ok_or g) → StaysWhole g c
+stays g c =
     let x = c.args.pool.now in
     let r = c.free_waiting-reclaimed in
-    let at = (goal.at.returns-clause-unchanged g c).After-free_waiting-reclaimed in
-    subst (λ found. OnErr found ((c.take_least-2.new.self ≡ x.groups) × (r.new.pool.queue ≡ x.queue))) (sym c.ok_or.ensures.value)
-    (oldest_unchanged g.M.Memory.did g.M.Memory.does c.args.memory.now x r.new.memory r.new.pool r.result.freed r.result.stopped (oldest g at) c.args.block c.take_least-2.new.self c.take_least-2.result (took g c))
+    let at : After-free_waiting-reclaimed g = search in
+    subst (λ found. OnErr found ((c.take_least-found.new.self ≡ x.groups) × (r.new.pool.queue ≡ x.queue))) (sym c.ok_or.ensures.value)
+    (oldest_unchanged g.M.Memory.did g.M.Memory.does c.args.memory.now x r.new.memory r.new.pool r.result.freed r.result.stopped (oldest g at) c.args.block c.take_least-found.new.self c.take_least-found.result (took g c))
 
-pub returns-clause-queued : goal.returns-clause-queued
-returns-clause-queued g c =
+queued : (g : Over) (c : After-ok_or g) → IsQueued c.take_least-found.new.self c.free_waiting-reclaimed.new.pool.queue
+queued g c =
     let r = c.free_waiting-reclaimed in
-    let at = (goal.at.returns-clause-queued g c).After-free_waiting-reclaimed in
-    oldest_queued g.M.Memory.did g.M.Memory.does c.args.memory.now c.args.pool.now r.new.memory r.new.pool r.result.freed r.result.stopped (oldest g at) c.args.block c.take_least-2.new.self c.take_least-2.result (took g c) c.requires.rests c.requires.queued
+    let at : After-free_waiting-reclaimed g = search in
+    oldest_queued g.M.Memory.did g.M.Memory.does c.args.memory.now c.args.pool.now r.new.memory r.new.pool r.result.freed r.result.stopped (oldest g at) c.args.block c.take_least-found.new.self c.take_least-found.result (took g c) c.requires.rests c.requires.queued
+
+-- The return's goals have the first name where the first `take_least` is tested by an `if let` that returns, the
+-- second where it is by a `match`, and the third where the `if let` has an `else`.
+
+pub returns-clause-takes : (g : Over) (c : After-ok_or g) → TakesOldest g c
+returns-clause-takes = takes
+
+pub returns-in-None-clause-takes : (g : Over) (c : After-ok_or g) → TakesOldest g c
+returns-in-None-clause-takes = takes
+
+pub returns-in_default-clause-takes : (g : Over) (c : After-ok_or g) → TakesOldest g c
+returns-in_default-clause-takes = takes
+
+pub returns-clause-linked : (g : Over) (c : After-ok_or g) → LinksOldest g c
+returns-clause-linked = links
+
+pub returns-in-None-clause-linked : (g : Over) (c : After-ok_or g) → LinksOldest g c
+returns-in-None-clause-linked = links
+
+pub returns-in_default-clause-linked : (g : Over) (c : After-ok_or g) → LinksOldest g c
+returns-in_default-clause-linked = links
+
+pub returns-clause-least : (g : Over) (c : After-ok_or g) → LinksLeast c.args.pool.now.groups c.take_least-found.new.self
+returns-clause-least = least
+
+pub returns-in-None-clause-least : (g : Over) (c : After-ok_or g) → LinksLeast c.args.pool.now.groups c.take_least-found.new.self
+returns-in-None-clause-least = least
+
+pub returns-in_default-clause-least : (g : Over) (c : After-ok_or g) → LinksLeast c.args.pool.now.groups c.take_least-found.new.self
+returns-in_default-clause-least = least
+
+pub returns-clause-unchanged : (g : Over) (c : After-ok_or g) → StaysWhole g c
+returns-clause-unchanged = stays
+
+pub returns-in-None-clause-unchanged : (g : Over) (c : After-ok_or g) → StaysWhole g c
+returns-in-None-clause-unchanged = stays
+
+pub returns-in_default-clause-unchanged : (g : Over) (c : After-ok_or g) → StaysWhole g c
+returns-in_default-clause-unchanged = stays
+
+pub returns-clause-queued : (g : Over) (c : After-ok_or g) → IsQueued c.take_least-found.new.self c.free_waiting-reclaimed.new.pool.queue
+returns-clause-queued = queued
+
+pub returns-in-None-clause-queued : (g : Over) (c : After-ok_or g) → IsQueued c.take_least-found.new.self c.free_waiting-reclaimed.new.pool.queue
+returns-in-None-clause-queued = queued
+
+pub returns-in_default-clause-queued : (g : Over) (c : After-ok_or g) → IsQueued c.take_least-found.new.self c.free_waiting-reclaimed.new.pool.queue
+returns-in_default-clause-queued = queued
