@@ -11,7 +11,7 @@ use Rattle.shared_words.specs.Rule.{IsLater}
 use Rattle.shared_words.proofs.Deeds.{between, later_trans}
 use Rattle.shared_fib.specs.RunningTable.{Identity, WriterState, IsAtRest, initial_state, steps_of}
 use Rattle.shared_fib.specs.Versions.{updates_begun, updates_done}
-use Rattle.shared_fib.specs.Passes.{PassState, IsOfVersion, LooksUp, IsHistory, Makes}
+use Rattle.shared_fib.specs.Passes.{PassState, IsHopOfVersion, LooksUp, IsHistory, Makes}
 use Rattle.shared_fib.proofs.Versions.{counts, version_is}
 use Rattle.shared_fib.proofs.Lookups.{words_after}
 use Rattle.bulk.specs.Desks.{AnswersAtRest, IsDeskOf, worker_of, EachDesk, IsSameDesk, HasMet, HasAnswered, IsAtBench}
@@ -32,7 +32,7 @@ width_of w = w.identity.initial.first + w.identity.initial.second
 
 -- the answer of a version that stood after all steps of a writer that rests
 rests_answer : (w : WriterState) (addr : ℕ) (hop : Option ℕ) (place k : ℕ) → IsAtRest w → IsWritten (initial_state w.identity) (steps_of w)
-    → IsOfVersion w.identity (steps_of w) addr hop place k → length (steps_of w) ≤ place
+    → IsHopOfVersion w.identity (steps_of w) addr hop place k → length (steps_of w) ≤ place
     → IsLongestHop (width_of w) w.table.rules addr hop
 rests_answer w addr hop place k rest written of late =
     let c : InitialState = initial_state w.identity in
@@ -61,8 +61,8 @@ looked_up : (w : WriterState) (addr : ℕ) (hop : Option ℕ) (lo hi : ℕ) (p q
 looked_up w addr hop lo hi p q rest written looks own before after =
     let f = looks.found in
     let a = looks.answer in
-    let of : IsOfVersion w.identity (steps_of w) f.addr f.hop a.place a.version = subst
-    (λ (z : Identity × List WriterStep). IsOfVersion z.0 z.1 f.addr f.hop a.place a.version)
+    let of : IsHopOfVersion w.identity (steps_of w) f.addr f.hop a.place a.version = subst
+    (λ (z : Identity × List WriterStep). IsHopOfVersion z.0 z.1 f.addr f.hop a.place a.version)
     (λ i. (own i, after i)) a.answer in
     let early : length p.writer_steps ≤ f.first = words_after addr hop lo hi p q looks in
     let late : length (steps_of w) ≤ a.place = omega (arith, ap length before, early, a.stood.0) in

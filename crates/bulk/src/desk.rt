@@ -12,7 +12,8 @@ use std::alloc::{AllocError, Global};
 /// The pass of a worker, with room for the next hops of a piece. A thread of `bulk` answers with one. It
 /// keeps its room from call to call.
 ///
-/// A desk that is dropped drops its pass: no report is made, and the worker's number stays taken.
+/// A desk that is dropped drops its pass: no report is made, and the worker's number stays taken. Where the
+/// pass is online then, it holds each group given up since its last report, for ever.
 /// [`into_pass`](Desk::into_pass) gives the pass back.
 #[derive(Drop)]
 pub struct Desk {

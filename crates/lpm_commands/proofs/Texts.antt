@@ -30,10 +30,10 @@ use Rattle.fib_model.specs.Outcomes.{Adds}
 use Rattle.fib_model.specs.Counters.{counter_transitions, initial_by_counters}
 use Rattle.std.proofs.lemmas.List.Elements.{All-cons, All-nil}
 use Rattle.storm.specs.declared.plan.Plan.{Plan}
-use Rattle.storm.specs.Writer.{IsForWriter}
+use Rattle.storm.specs.Writer.{IsForWriter, is_for_writer}
 use Rattle.storm.specs.Storm.{limits_of}
 use Rattle.lpm_commands.specs.FilledTable.{rule_of}
-use Rattle.lpm_commands.specs.Storm.{AreLoaded, is_change, changes_of, IsPlanOf, IsTextOver, IsStormText, EndsAfter, EndsOver, EndsRunning, EndsStormRun}
+use Rattle.lpm_commands.specs.Storm.{AreLoaded, orders_for_writer, IsPlanOf, IsTextOver, IsStormText, EndsAfter, EndsOver, EndsRunning, EndsStormRun}
 use Rattle.lpm_commands.specs.Report.{report_files, EndsReport, IsReportedOver, IsReportText}
 use Rattle.lpm_commands.proofs.UpdateResults.{updated, last_rules, reported}
 use Rattle.lpm_files.specs.declared.failure.Failure.TheVariants as failures
@@ -159,19 +159,19 @@ refused_ends c file routes refusal failure refused memory other ends = elim (is_
 
 -- What a storm of the files is asked to do, and how it ended.
 
-changes_for_writer : (list : List (Order 24 8)) → All IsForWriter (filter is_change list)
-changes_for_writer [] = All-nil IsForWriter
-changes_for_writer (orders.Add p h ∷ more) = All-cons IsForWriter _ _ tt (changes_for_writer more)
-changes_for_writer (orders.Del p ∷ more) = All-cons IsForWriter _ _ tt (changes_for_writer more)
-changes_for_writer (orders.Flush ∷ more) = All-cons IsForWriter _ _ tt (changes_for_writer more)
-changes_for_writer (orders.Reclaim max ∷ more) = All-cons IsForWriter _ _ tt (changes_for_writer more)
-changes_for_writer (orders.Online worker ∷ more) = changes_for_writer more
-changes_for_writer (orders.Offline worker ∷ more) = changes_for_writer more
-changes_for_writer (orders.Quiescent worker ∷ more) = changes_for_writer more
+all_for_writer : (list : List (Order 24 8)) → All IsForWriter (filter is_for_writer list)
+all_for_writer [] = All-nil IsForWriter
+all_for_writer (orders.Add p h ∷ more) = All-cons IsForWriter _ _ refl (all_for_writer more)
+all_for_writer (orders.Del p ∷ more) = All-cons IsForWriter _ _ refl (all_for_writer more)
+all_for_writer (orders.Flush ∷ more) = All-cons IsForWriter _ _ refl (all_for_writer more)
+all_for_writer (orders.Reclaim max ∷ more) = All-cons IsForWriter _ _ refl (all_for_writer more)
+all_for_writer (orders.Online worker ∷ more) = all_for_writer more
+all_for_writer (orders.Offline worker ∷ more) = all_for_writer more
+all_for_writer (orders.Quiescent worker ∷ more) = all_for_writer more
 
 -- no update of a storm is a report of a worker
-pub for_writer : (updates : List (Order 24 8)) → All IsForWriter (changes_of updates)
-for_writer updates = changes_for_writer updates
+pub for_writer : (updates : List (Order 24 8)) → All IsForWriter (orders_for_writer updates)
+for_writer updates = all_for_writer updates
 
 -- the text of a storm of what the files list
 pub is_storm_text : (c : Config) (rounds : ℕ) (is_stuck : Bool) (routes updates addresses : Option (List ℕ)) (list list' : List Route) (orders orders' : List (Order 24 8)) (addrs addrs' text : List ℕ) → Reads AreRoutes routes list → Reads AreUpdates updates orders → Reads AreAddresses addresses addrs → list' ≡ list → orders' ≡ orders → addrs' ≡ addrs → IsTextOver c rounds is_stuck list' orders' addrs' text → IsStormText c rounds is_stuck routes updates addresses text
@@ -193,12 +193,12 @@ ends_storm c rounds is_stuck routes updates addresses bytes list list' orders or
     inr (inl (read, (list, (orders, (addrs, are_routes, are_updates, are_addrs, over)))))
 
 -- the plan of a storm
-pub is_plan : (list : List Route) (orders : List (Order 24 8)) (addrs : List ℕ) (plan : Plan 24 8) → plan.rules.now ≡ map rule_of list → plan.orders.now ≡ changes_of orders → plan.addrs.now ≡ addrs → IsPlanOf plan.config plan.rounds plan.has_stuck_worker list orders addrs plan
-is_plan list orders addrs plan rules changes same = record {
+pub is_plan : (list : List Route) (orders : List (Order 24 8)) (addrs : List ℕ) (plan : Plan 24 8) → plan.rules.now ≡ map rule_of list → plan.orders.now ≡ orders_for_writer orders → plan.addrs.now ≡ addrs → IsPlanOf plan.config plan.rounds plan.has_stuck_worker list orders addrs plan
+is_plan list orders addrs plan rules for_writer same = record {
   limits = refl;
   stuck = refl;
   rules = rules;
-  changes = changes;
+  for_writer = for_writer;
   addresses = same;
   times = refl;
 }

@@ -1,8 +1,7 @@
 -- Meaning: the command `storm` (this project's program: each worker looks all addresses up, round
 -- after round, while the writer makes the updates; then every answer is held against the versions
 -- of the rules).
-use Rattle.std.specs.Prelude.{ℕ, ◌≡◌, ◌+◌, ◌⊎◌, Bool, true, false, List, Option, map}
-use Rattle.std.specs.Prelude.{filter}
+use Rattle.std.specs.Prelude.{ℕ, ◌≡◌, ◌+◌, ◌⊎◌, Bool, List, Option, filter, map}
 use Rattle.lpm_limits.specs.declared.config.Config.{Config}
 use Rattle.lpm_limits.specs.declared.refusal.Refusal.TheVariants as refusals
 use Rattle.lpm_rules.specs.RuleMap.{rules_of}
@@ -10,7 +9,6 @@ use Rattle.qsbr.specs.Counters.{Registry}
 use Rattle.fib_model.specs.State.{State}
 use Rattle.route_text.specs.declared.routes.Route.{Route}
 use Rattle.fib_model.specs.declared.orders.Order.{Order}
-use Rattle.fib_model.specs.declared.orders.Order.TheVariants as orders
 use Rattle.route_text.specs.Files.{AreRoutes, AreAddresses}
 use Rattle.route_text.specs.Updates.{AreUpdates}
 use Rattle.audit.specs.declared.report.StormReport.{StormReport}
@@ -19,6 +17,7 @@ use Rattle.storm.specs.declared.plan.Plan.{Plan}
 use Rattle.storm.specs.declared.plan.StormError.{StormError}
 use Rattle.storm.specs.declared.plan.StormError.TheVariants as errors
 use Rattle.storm.specs.Storm.{EndsBefore, EndsStorm, IsInRange, limits_of, IsStorm}
+use Rattle.storm.specs.Writer.{is_for_writer}
 use Rattle.lpm_files.specs.declared.failure.Failure.{Failure}
 use Rattle.lpm_files.specs.declared.failure.Failure.TheVariants as failures
 use Rattle.lpm_files.specs.Inputs.{Reads, AreRead, EndsAtOne}
@@ -26,16 +25,9 @@ use Rattle.lpm_commands.specs.Load.{EndsLoading, IsLoaded}
 use Rattle.lpm_commands.specs.FilledTable.{rule_of}
 use Rattle.lpm_commands.specs.Apply.{apply_files}
 
--- the order is one for the writer: a worker of a storm reports by itself
-abbrev pub is_change : Order 24 8 → Bool
-is_change (orders.Online worker) = false
-is_change (orders.Offline worker) = false
-is_change (orders.Quiescent worker) = false
-is_change order = true
-
--- the updates of the writer: all but the reports of workers
-abbrev pub changes_of : List (Order 24 8) → List (Order 24 8)
-changes_of orders = filter is_change orders
+-- the orders for the writer: all but the reports of workers, since a worker of a storm reports by itself
+abbrev pub orders_for_writer : List (Order 24 8) → List (Order 24 8)
+orders_for_writer orders = filter is_for_writer orders
 
 -- the plan of a storm on a table of these limits, in so many rounds, with a stuck worker or not: the
 -- table has the rules of the routes before the threads start
@@ -44,7 +36,7 @@ pub record IsPlanOf (c : Config) (rounds : ℕ) (is_stuck : Bool) (list : List R
   pub limits : plan.config ≡ c
   pub stuck : plan.has_stuck_worker ≡ is_stuck
   pub rules : plan.rules.now ≡ map rule_of list
-  pub changes : plan.orders.now ≡ changes_of orders
+  pub for_writer : plan.orders.now ≡ orders_for_writer orders
   pub addresses : plan.addrs.now ≡ addrs
   pub times : plan.rounds ≡ rounds
 

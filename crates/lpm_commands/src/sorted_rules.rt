@@ -19,12 +19,12 @@ pub fn rules_in_order(alloc: Global, routes: &[Route]) -> Result<Vec<Rule<24, 8>
     ensures ordered { IfOk result (λ v. AreInOrder v.items) }
     ensures same { IfOk result (λ v. rules_of v.items ≡ rules_of_routes routes.now) }
 {
-    let rules = rules_of_routes(alloc, routes)?;
+    let rules = rule_list(alloc, routes)?;
     in_order(alloc, &rules)
 }
 
-/// The rules of the routes, as they stand.
-pub fn rules_of_routes(alloc: Global, routes: &[Route]) -> Result<Vec<Rule<24, 8>>, AllocError>
+/// The rules of the routes, in the order of the routes.
+pub fn rule_list(alloc: Global, routes: &[Route]) -> Result<Vec<Rule<24, 8>>, AllocError>
     ensures { IfOk result (λ v. v.items ≡ map rule_of routes.now) }
 {
     let mut rules = Vec::with_capacity(alloc, routes.len())?;

@@ -5,13 +5,13 @@ ghost use Rattle.lpm_rules.specs.RuleMap.{rules_of};
 ghost use Rattle.shared_fib.specs.Passes.{IsFullBench};
 ghost use Rattle.shared_fib.specs.RunningTable.{initial_writer};
 ghost use Rattle.lpm_files.specs.Output.{Writes, WritesBeginning};
-ghost use Rattle.storm.specs.Writer.{IsForWriter};
+ghost use Rattle.storm.specs.Writer.{IsForWriter, is_for_writer};
 ghost use Rattle.storm.specs.Storm.{EndsStorm, IsInRange, IsStorm, limits_of};
 ghost use Rattle.lpm_commands.specs.Load.{rules_of_routes};
 ghost use Rattle.lpm_commands.specs.Storm.{IsStormText, IsTextAfter, IsTextOf, IsTextOver, ending_of, with_versions};
-ghost use Rattle.lpm_commands.specs.Storm.{EndsAfter, EndsBy, EndsOver, EndsRunning, EndsStormRun, changes_of, is_change};
+ghost use Rattle.lpm_commands.specs.Storm.{EndsAfter, EndsBy, EndsOver, EndsRunning, EndsStormRun, orders_for_writer};
 
-use crate::sorted_rules::rules_of_routes;
+use crate::sorted_rules::rule_list;
 use crate::tables::{Running, open_for_changes};
 use audit::{StormReport, TableCounts, storm_text};
 use bulk::Gate;
@@ -131,13 +131,13 @@ fn text_of_lists<'a, R: Threads + Wait + Sync, G: Gate>(
     ensures failure { IfErr result (EndsOver config rounds has_stuck_worker
         path.entry.now routes.now orders.now addrs.now) }
 {
-    let rules = rules_of_routes(alloc, routes)?;
-    let changes = changes_of(alloc, orders)?;
+    let rules = rule_list(alloc, routes)?;
+    let for_writer = orders_for_writer(alloc, orders)?;
     let plan = Plan {
         config,
         has_stuck_worker,
         rules: &rules,
-        orders: &changes,
+        orders: &for_writer,
         addrs,
         rounds,
     };
@@ -281,22 +281,22 @@ fn ending_of<'a>(error: StormError) -> Failure<'a>
     }
 }
 
-// The updates, but for the reports of workers.
-fn changes_of(alloc: Global, orders: &[Order]) -> Result<Vec<Order>, AllocError>
-    ensures { IfOk result (λ v. v.items ≡ changes_of orders.now) }
+// The orders but for the reports of workers.
+fn orders_for_writer(alloc: Global, orders: &[Order]) -> Result<Vec<Order>, AllocError>
+    ensures { IfOk result (λ v. v.items ≡ orders_for_writer orders.now) }
 {
-    let mut changes = Vec::new(alloc);
+    let mut kept = Vec::new(alloc);
     for order in orders {
-        if is_change(order) {
-            changes.push(*order)?;
+        if is_for_writer(order) {
+            kept.push(*order)?;
         }
     }
-    Ok(changes)
+    Ok(kept)
 }
 
-// Whether the update is one for the writer: a worker of a storm reports by itself.
-fn is_change(order: &Order) -> bool
-    ensures { result ≡ is_change order.now }
+// Whether the order is one for the writer: a worker of a storm reports by itself.
+fn is_for_writer(order: &Order) -> bool
+    ensures { result ≡ is_for_writer order.now }
 {
     !matches!(
         order,

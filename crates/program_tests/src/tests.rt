@@ -8,7 +8,7 @@ mod explain;
 mod failures;
 mod fakes;
 mod files;
-mod known;
+mod known_files;
 mod meeting;
 mod pieces;
 mod refusals;

@@ -6,6 +6,6 @@ mod cases;
 mod changes;
 mod facade;
 mod groups;
+mod initial_rules;
 mod large;
 mod pieces;
-mod sorted;

@@ -33,7 +33,7 @@ use Rattle.lpm_writer.specs.MemorySteps.{WithSteps, by_writer}
 use Rattle.lpm_writer.proofs.StepsAlone.{adds_alone, deletes_alone, flushes_alone, frees_alone}
 use Rattle.shared_words.specs.Layout.{InitialData, initial_state_of}
 use Rattle.shared_words.specs.Seats.{AreChecked, AreLawful}
-use Rattle.shared_fib.specs.Lent.{LentSeat, SharedDid, state_of_lent}
+use Rattle.shared_fib.specs.LentSeats.{LentSeat, SharedDid, state_of_lent}
 use Rattle.shared_fib.specs.RunningTable.{Identity, IsSoundWriter, WriterState, by_steps, state_by, steps_of}
 use Rattle.shared_fib.specs.FreedGroups.{FreesChecked, TakesLeast}
 use Rattle.shared_fib.proofs.TokenChecks.{frees_checked}

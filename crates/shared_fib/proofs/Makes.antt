@@ -19,7 +19,7 @@ use Rattle.shared_words.specs.Seats.{IsSound, Gains, WorkerAt}
 use Rattle.shared_words.specs.Deeds.{AddressLookup, IsReadOn, firsts_at, loads_at, seconds_at, seen_of, GainsAll, GainsAt, GoesOn, LoadsAround, LooksUp as DeedLooksUp, LooksUpAll as DeedLooksUpAll}
 use Rattle.shared_words.proofs.Deeds.{all_at, gains_on, goes_at, goes_on, later_trans, later_longer}
 use Rattle.shared_fib.specs.Versions.{updates_begun, updates_done}
-use Rattle.shared_fib.specs.Passes.{PassState, Makes, IsAnswered, IsOfVersion, LooksUp, LooksUpAll}
+use Rattle.shared_fib.specs.Passes.{PassState, Makes, IsAnswered, IsHopOfVersion, LooksUp, LooksUpAll}
 use Rattle.shared_fib.proofs.Versions.{beginning_of, counts, written_then, kept}
 
 -- what a view gains by these steps
@@ -111,7 +111,7 @@ makes_two on on' r t s s' p is table worker steps =
 -- a legal lookup is that of a version
 pub of_version : (table : TableId) (o : InitialData) (w_steps : List WriterStep) (l : FinishedLookup) → IsWritten (initial_state_of o) w_steps
     → (h : IsLegalAtPlace (initial_state_of o) w_steps l)
-    → IsOfVersion (record { words = table; initial = o }) w_steps l.addr l.hop h.place
+    → IsHopOfVersion (record { words = table; initial = o }) w_steps l.addr l.hop h.place
     (version (state_at (initial_state_of o) w_steps h.place) l.addr)
 of_version table o w_steps l written h =
     let c : InitialState = initial_state_of o in

@@ -12,7 +12,7 @@ use Rattle.lpm_writer.proofs.StepsAlone.{steps_passed, steps_stopped}
 use Rattle.shared_words.specs.declared.view.View.{View}
 use Rattle.shared_words.specs.Layout.{InitialData, initial_state_of}
 use Rattle.shared_words.specs.Seats.{AreChecked}
-use Rattle.shared_fib.specs.Lent.{token_by, LentSeat, SharedDid, SharedDoes}
+use Rattle.shared_fib.specs.LentSeats.{token_by, LentSeat, SharedDid, SharedDoes}
 use Rattle.shared_fib.specs.RunningTable.{OnlySees, WriterState, Identity, IsAtRest, initial_state}
 use Rattle.shared_fib.proofs.TokenChecks.{looked, token_checked}
 use Rattle.lpm_cells.specs.Words.{entry_at}

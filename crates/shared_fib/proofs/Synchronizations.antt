@@ -20,7 +20,7 @@ use Rattle.lpm_writer.specs.Rest.{IsResting}
 use Rattle.lpm_writer.proofs.StepsAlone.{checks_alone, checks_fixed, stopped_token}
 use Rattle.shared_words.specs.declared.view.View.{View}
 use Rattle.shared_words.specs.Layout.{initial_state_of}
-use Rattle.shared_fib.specs.Lent.{LentSeat, SharedDid, SharedDoes, state_of_lent}
+use Rattle.shared_fib.specs.LentSeats.{LentSeat, SharedDid, SharedDoes, state_of_lent}
 use Rattle.shared_fib.specs.LentLaws.{shared_shows}
 use Rattle.shared_fib.specs.Grace.{PassesAtLast}
 use Rattle.shared_fib.proofs.SeatMemory.{Kept, kept, does_in, stays}

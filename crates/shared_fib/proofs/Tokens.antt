@@ -18,7 +18,7 @@ use Rattle.shared_words.specs.declared.view.View.{View}
 use Rattle.shared_words.specs.Layout.{InitialData, initial_state_of}
 use Rattle.shared_words.specs.Seats.{AreLawful, state_of_view, with_step}
 use Rattle.shared_fib.specs.Grace.{IsInGrace}
-use Rattle.shared_fib.specs.Lent.{LentSeat, SharedDid, passed_by, state_of_lent, token_by}
+use Rattle.shared_fib.specs.LentSeats.{LentSeat, SharedDid, passed_by, state_of_lent, token_by}
 use Rattle.shared_fib.specs.RunningTable.{IsSoundWriter, OnlySees}
 use Rattle.shared_fib.proofs.SeatMemory.{either, on_err_then, on_ok_both, on_ok_then, seat_passed, seat_token_stays, Kept, kept, does_in, stays, only_sees, outcome_after, rests_after}
 use Rattle.shared_fib.proofs.Synchronizations.{exhausted_by, queued_passed}

@@ -6,7 +6,7 @@ use Rattle.lpm_trace.specs.Writer.{MayStep}
 use Rattle.lpm_writer.specs.Plain.{MayBeNext}
 use Rattle.shared_words.specs.declared.view.View.{View}
 use Rattle.shared_words.specs.Layout.{initial_state_of}
-use Rattle.shared_fib.specs.Lent.{LentSeat, SharedMay, SharedDid, SharedDoes, state_of_lent}
+use Rattle.shared_fib.specs.LentSeats.{LentSeat, SharedMay, SharedDid, SharedDoes, state_of_lent}
 
 pub shared_follows : (m : LentSeat) (s : WriterStep) (z : LentSeat) (c : InitialState) (steps : List WriterStep)
     → SharedDoes s m z → SharedDid m c steps → MayStep c steps s → SharedDid z c (s ∷ steps)

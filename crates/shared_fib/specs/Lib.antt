@@ -4,7 +4,7 @@ pub mod Versions
 pub mod LoadedTable
 pub mod Laws
 pub mod Initial
-pub mod Lent
+pub mod LentSeats
 pub mod LentLaws
 pub mod Pairs
 pub mod Bursts

@@ -45,7 +45,7 @@ pub record Makes (made : List (WorkerStep × ℕ)) (p q : PassState) : Type 0 wh
 
 -- the hop is that of the longest match in the rules of version k, which stood after the first `place` of the
 -- writer's steps: its update was begun, and the next one wasn't done
-pub record IsOfVersion (table : Identity) (steps : List WriterStep) (addr : ℕ) (hop : Option ℕ) (place k : ℕ)
+pub record IsHopOfVersion (table : Identity) (steps : List WriterStep) (addr : ℕ) (hop : Option ℕ) (place k : ℕ)
     : Type 0 where
   pub rules : RuleMap
   pub version : IsVersion table.initial.rules steps k rules
@@ -60,7 +60,7 @@ pub record IsAnswered (table : Identity) (steps : List WriterStep) (lo hi : ℕ)
   pub exact : IsReadOn (entry_in f.word) f.second f.hop
   pub place : ℕ
   pub version : ℕ
-  pub answer : IsOfVersion table steps f.addr f.hop place version
+  pub answer : IsHopOfVersion table steps f.addr f.hop place version
   pub stood : (f.first ≤ place) × (place ≤ last_at f.first f.second)
   pub within : (lo ≤ version) × (version ≤ hi)
 

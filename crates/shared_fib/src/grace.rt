@@ -6,7 +6,7 @@ ghost use Rattle.lpm_trace.specs.Laws.{IsChecked};
 ghost use Rattle.lpm_writer.specs.Steps.{Checks};
 ghost use Rattle.lpm_writer.specs.Limbo.{tokens_of};
 ghost use Rattle.shared_words.specs.Seats.{IsOf, with_step};
-ghost use Rattle.shared_fib.specs.Lent.{passed_by, token_by};
+ghost use Rattle.shared_fib.specs.LentSeats.{passed_by, token_by};
 ghost use Rattle.shared_fib.specs.Grace.{IsInGrace};
 ghost use Rattle.shared_fib.specs.RunningTable.{IsSoundWriter, OnlySees, passed_of, state_by, steps_of, token_of};
 

@@ -7,7 +7,7 @@ use lpm_writer::Memory;
 
 impl<'a, const FIRST: u32, const SECOND: u32> Cells for SharedMemory<'a, FIRST, SECOND> {
     ghost use Rattle.lpm_trace.specs.declared.step.WriterStep.TheVariants.{StoreFirst, StoreSecond};
-    ghost use Rattle.shared_fib.specs.Lent.{SharedMay, SharedDoes, state_of_lent};
+    ghost use Rattle.shared_fib.specs.LentSeats.{SharedMay, SharedDoes, state_of_lent};
 
     ghost words = { λ m. (state_of_lent m).words };
 
@@ -41,7 +41,7 @@ impl<'a, const FIRST: u32, const SECOND: u32> Cells for SharedMemory<'a, FIRST, 
 }
 
 impl<'a, const FIRST: u32, const SECOND: u32> Memory for SharedMemory<'a, FIRST, SECOND> {
-    ghost use Rattle.shared_fib.specs.Lent.{SharedDid, SharedDoes, state_of_lent};
+    ghost use Rattle.shared_fib.specs.LentSeats.{SharedDid, SharedDoes, state_of_lent};
     ghost use Rattle.shared_fib.specs.LentLaws.{shared_follows, shared_shows, shared_may};
     ghost use Rattle.lpm_trace.specs.declared.step.WriterStep.TheVariants.{StoreFirst, StoreSecond};
 

@@ -4,7 +4,7 @@ ghost use Rattle.std.specs.Prelude.{◌≡◌, ◌^◌, ◌≤◌};
 ghost use Rattle.lpm_trace.specs.States.{state_after, updates_begun_in};
 ghost use Rattle.shared_words.specs.Layout.{initial_state_of};
 ghost use Rattle.shared_words.specs.Seats.{AreLawful, IsOf};
-ghost use Rattle.shared_fib.specs.Lent.{SharedDid, state_of_lent};
+ghost use Rattle.shared_fib.specs.LentSeats.{SharedDid, state_of_lent};
 
 use crate::InitialTable;
 use shared_words::{SharedWords, WriterSeat};
@@ -20,7 +20,7 @@ pub struct SharedMemory<'a, const FIRST: u32, const SECOND: u32> {
 }
 
 impl<'a, const FIRST: u32, const SECOND: u32> Model for SharedMemory<'a, FIRST, SECOND> {
-    ghost use Rattle.shared_fib.specs.Lent.{LentSeat, coded_lent, IsAt};
+    ghost use Rattle.shared_fib.specs.LentSeats.{LentSeat, coded_lent, IsAt};
     ghost use Rattle.shared_words.specs.Seats.{IsOf};
 
     ghost Value = { LentSeat };

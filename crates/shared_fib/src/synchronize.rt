@@ -8,7 +8,7 @@ ghost use Rattle.lpm_writer.specs.Commands.{IsWaiting, Rests};
 ghost use Rattle.shared_words.specs.Layout.{initial_state_of};
 ghost use Rattle.shared_words.specs.Rule.{IsLater};
 ghost use Rattle.shared_words.specs.Seats.{IsOf};
-ghost use Rattle.shared_fib.specs.Lent.{SharedDid, passed_by, token_by};
+ghost use Rattle.shared_fib.specs.LentSeats.{SharedDid, passed_by, token_by};
 ghost use Rattle.shared_fib.specs.Grace.{PassesAtLast};
 ghost use Rattle.shared_fib.specs.RunningTable.{IsSoundWriter, OnlySees, passed_of, steps_of, token_of};
 

@@ -159,9 +159,9 @@ order_later k on f g c s z order.Flush (outcome.Refused refusal) mine d = flushe
 order_later k on f g c s z order.Flush other mine d = absurd d
 order_later k on f g c s z (order.Reclaim max) (outcome.Reclaimed r) mine d = frees_later k.changes on s z max r d
 order_later k on f g c s z (order.Reclaim max) other mine d = absurd d
-order_later k on f g c s z (order.Online w) out mine d = absurd mine
-order_later k on f g c s z (order.Offline w) out mine d = absurd mine
-order_later k on f g c s z (order.Quiescent w) out mine d = absurd mine
+order_later k on f g c s z (order.Online w) out mine d = absurd (cc)
+order_later k on f g c s z (order.Offline w) out mine d = absurd (cc)
+order_later k on f g c s z (order.Quiescent w) out mine d = absurd (cc)
 
 -- ---- one command
 
@@ -212,9 +212,9 @@ comes k f g c s z order.Flush other mine d = absurd d
 comes {X} k f g c s z (order.Reclaim max) (outcome.Reclaimed r) mine d =
     kept_rules s z (ap (λ (x : State X). x.rules) d.1) (ap (λ (x : State X). x.updates_begun) d.1)
 comes k f g c s z (order.Reclaim max) other mine d = absurd d
-comes k f g c s z (order.Online w) out mine d = absurd mine
-comes k f g c s z (order.Offline w) out mine d = absurd mine
-comes k f g c s z (order.Quiescent w) out mine d = absurd mine
+comes k f g c s z (order.Online w) out mine d = absurd (cc)
+comes k f g c s z (order.Offline w) out mine d = absurd (cc)
+comes k f g c s z (order.Quiescent w) out mine d = absurd (cc)
 
 -- settling makes no version
 pub settled_versions : (id : Identity) (last end : WriterState) → Settles id last end → end.table.updates_begun ≡ last.table.updates_begun

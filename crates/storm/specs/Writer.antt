@@ -1,7 +1,7 @@
 -- Meaning: the commands that the writer of a running table makes one after another, what came of each, and
 -- which of them made a version (DPDK Programmer's Guide, "LPM Library", "Addition" and "Deletion"; that an
 -- unchanged rule makes no version is this project's).
-use Rattle.std.specs.Prelude.{ℕ, suc, ◌≡◌, ◌≤◌, Bool, true, false, List, [], ◌∷◌, ◌++◌, length, count_by}
+use Rattle.std.specs.Prelude.{ℕ, suc, ◌≡◌, ◌≤◌, Bool, true, false, IsTrue, List, [], ◌∷◌, ◌++◌, length, count_by}
 use Rattle.lpm_limits.specs.declared.config.Config.{Config}
 use Rattle.lpm_rules.specs.RuleMap.{RuleMap}
 use Rattle.lpm_rules.specs.Changes.{rules_after}
@@ -30,12 +30,15 @@ by_own_steps initial = record {
   after_report = λ report worker steps. steps;
 }
 
--- the command is one for the writer, and no report of a worker
+-- whether the command is one for the writer, and no report of a worker
+abbrev pub is_for_writer : {first second : ℕ} → Order first second → Bool
+is_for_writer (order.Online worker) = false
+is_for_writer (order.Offline worker) = false
+is_for_writer (order.Quiescent worker) = false
+is_for_writer other = true
+
 abbrev pub IsForWriter : {first second : ℕ} → Order first second → Type 0
-IsForWriter (order.Online worker) = ⊥
-IsForWriter (order.Offline worker) = ⊥
-IsForWriter (order.Quiescent worker) = ⊥
-IsForWriter other = Unit {0}
+IsForWriter order = IsTrue (is_for_writer order)
 
 -- the change of the rule list that a command made; a rule that stays, a refused command, a flush of no
 -- rules and a reclaim make none

@@ -4,7 +4,7 @@ mod asserts;
 mod cases;
 mod deciders;
 mod ends;
+mod faults;
 mod many;
 mod plan;
-mod planted;
 mod unlawful;

@@ -1,12 +1,12 @@
 use super::asserts::assert_at;
-use lpm_bits::Hop;
 use lpm_cells::Entry;
 use std::process::Abort;
+use test_support::hop;
 
 // The word of a hop with this number and this depth.
 fn assert_word(rt: &impl Abort, number: u32, depth: u32, word: u32) {
     let word = u64::from(word);
-    let hop = Hop::new(number).expect(rt, "a next hop");
+    let hop = hop(number);
     assert!(rt; depth <= 32);
     let entry = Entry::from_word::<24, 8>(word);
     let (found, back) = (

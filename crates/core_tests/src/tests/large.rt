@@ -2,7 +2,7 @@
 //! memory is ample.
 
 use super::asserts::assert_at;
-use super::opened::{opened, opened_at};
+use super::initial_rules::{opened, opened_at};
 use super::table::{assert_number, figures, figures_of_replay};
 use fib::{Fib, Replay};
 use fib_model::{Order, Outcome};

@@ -2,10 +2,10 @@ ghost use Rattle.std.specs.Prelude.{◌<◌};
 
 use super::asserts::{assert_at, assert_shown};
 use super::bits::covers_plainly;
-use lpm_bits::{Hop, Prefix};
+use lpm_bits::Prefix;
 use lpm_rules::{NoSuchRule, Put, RuleFault, Rules};
 use std::process::Abort;
-use test_support::hop_number;
+use test_support::{hop, hop_number};
 
 type Small = Rules<4, 4>;
 
@@ -158,7 +158,7 @@ const MOST_RULES: usize = 24;
 fn put_all(rt: &impl Abort, rules: &mut Small, plain: &mut Vec<Plain>) {
     for i in 0..60u32 {
         let prefix = some_prefix(rt, i);
-        let put = rules.put(&prefix, Hop::new(i % 7).expect(rt, "a next hop"));
+        let put = rules.put(&prefix, hop(i % 7));
         let plainly = plain_put(rt, plain, MOST_RULES, &prefix, i % 7);
         assert_at(rt, ("put", i), put, plainly);
         if i % 6 == 5 {

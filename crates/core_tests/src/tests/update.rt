@@ -12,6 +12,7 @@ use lpm_update::{Did, Update};
 use std::alloc::{AllocError, Global};
 use std::marker::Model;
 use std::process::Abort;
+use test_support::Edit;
 
 // Makes all stores of a change, and notes what each step did.
 fn record(rt: &impl Abort, made: &mut Vec<Did>, update: Update, cells: &mut PlainCells<4, 4>)
@@ -228,18 +229,10 @@ fn assert_stores(rt: &impl Abort, made: &[Did], before: usize, stores: Stores) {
 // A place among the first words or among the second words, and the word there.
 type Word = (usize, u64);
 
-#[derive(Clone, Copy)]
-enum Change {
-    // The bits and the length of the prefix, and the next hop.
-    Add(u32, u32, u32),
-    Delete(u32, u32),
-    Flush,
-}
-
 // A change, its stores, and words after it: of the blocks, and of the group.
 #[derive(Clone, Copy)]
 struct Stage {
-    change: Change,
+    change: Edit,
     made: &'static [Stores],
     firsts: &'static [Word],
     seconds: &'static [Word],
@@ -264,7 +257,7 @@ const GROUP: u64 = 0x0300_0000;
 
 // A flush that stores nothing.
 const BARE: Stage = Stage {
-    change: Change::Flush,
+    change: Edit::Flush,
     made: &[],
     firsts: &[],
     seconds: &[],
@@ -273,14 +266,14 @@ const BARE: Stage = Stage {
 
 // 0x10 of length 4 to hop 7.
 const COVER: Stage = Stage {
-    change: Change::Add(0x10, 4, 7),
+    change: Edit::Add(0x10, 4, 7),
     made: &[Stores::Firsts(1, 2)],
     ..BARE
 };
 
 // And 0x12 of length 8 to hop 5, which takes group 0.
 const FILLED: Stage = Stage {
-    change: Change::Add(0x12, 8, 5),
+    change: Edit::Add(0x12, 8, 5),
     made: LINK,
     firsts: &[(1, GROUP)],
     group: Some((FIVE, SEVEN)),
@@ -291,7 +284,7 @@ const COVER_ANSWER: &[Stage] = &[
     COVER,
     FILLED,
     Stage {
-        change: Change::Delete(0x12, 8),
+        change: Edit::Delete(0x12, 8),
         made: &[Stores::Seconds(2, 3), Stores::Unlinked(1, 0)],
         firsts: &[(1, SEVEN)],
         seconds: &[(2, SEVEN)],
@@ -303,7 +296,7 @@ const UNDER_A_GROUP: &[Stage] = &[
     COVER,
     FILLED,
     Stage {
-        change: Change::Add(0x10, 4, 3),
+        change: Edit::Add(0x10, 4, 3),
         made: &[Stores::Seconds(0, 2), Stores::Seconds(3, 16)],
         firsts: &[(1, GROUP)],
         group: Some((FIVE, THREE)),
@@ -316,19 +309,19 @@ const COLLAPSE: &[Stage] = &[
     COVER,
     FILLED,
     Stage {
-        change: Change::Add(0x10, 6, 6),
+        change: Edit::Add(0x10, 6, 6),
         made: &[Stores::Seconds(0, 2), Stores::Seconds(3, 4)],
         ..BARE
     },
     Stage {
-        change: Change::Delete(0x12, 8),
+        change: Edit::Delete(0x12, 8),
         made: &[Stores::Seconds(2, 3)],
         firsts: &[(1, GROUP)],
         seconds: &[(1, SIX), (2, SIX), (4, SEVEN)],
         ..BARE
     },
     Stage {
-        change: Change::Delete(0x10, 6),
+        change: Edit::Delete(0x10, 6),
         made: &[Stores::Seconds(0, 4), Stores::Unlinked(1, 0)],
         firsts: &[(1, SEVEN)],
         ..BARE
@@ -337,7 +330,7 @@ const COLLAPSE: &[Stage] = &[
 
 // The rule of a table without others, over a group.
 const ALONE: Stage = Stage {
-    change: Change::Add(0x12, 8, 5),
+    change: Edit::Add(0x12, 8, 5),
     made: LINK,
     ..BARE
 };
@@ -345,7 +338,7 @@ const ALONE: Stage = Stage {
 const ANSWER_FROM_UNLINKED_GROUP: &[Stage] = &[
     ALONE,
     Stage {
-        change: Change::Flush,
+        change: Edit::Flush,
         made: &[Stores::Unlinked(1, 0)],
         firsts: &[(1, 0)],
         seconds: &[(2, FIVE)],
@@ -356,7 +349,7 @@ const ANSWER_FROM_UNLINKED_GROUP: &[Stage] = &[
 const ORDER_UNDER_A_GROUP: &[Stage] = &[
     ALONE,
     Stage {
-        change: Change::Add(0x00, 0, 9),
+        change: Edit::Add(0x00, 0, 9),
         made: &[
             Stores::Firsts(0, 1),
             Stores::Seconds(0, 2),
@@ -368,7 +361,7 @@ const ORDER_UNDER_A_GROUP: &[Stage] = &[
         ..BARE
     },
     Stage {
-        change: Change::Flush,
+        change: Edit::Flush,
         made: &[
             Stores::Firsts(0, 1),
             Stores::Unlinked(1, 0),
@@ -387,11 +380,12 @@ static CASES: [&[Stage]; 5] = [
     ORDER_UNDER_A_GROUP,
 ];
 
-fn make_change(rt: &impl Abort, table: &mut Table, change: Change) {
+fn make_change(rt: &impl Abort, table: &mut Table, change: Edit) {
     match change {
-        Change::Add(bits, len, hop) => table.add(rt, bits, len, hop),
-        Change::Delete(bits, len) => table.delete(rt, bits, len),
-        Change::Flush => table.flush(rt),
+        Edit::Add(bits, len, hop) => table.add(rt, bits, len, hop),
+        Edit::Delete(bits, len) => table.delete(rt, bits, len),
+        Edit::Flush => table.flush(rt),
+        Edit::Reclaim(_) | Edit::Synchronize => panic!(rt; "no update"),
     }
 }
 

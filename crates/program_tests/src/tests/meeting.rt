@@ -3,7 +3,7 @@
 ghost use Rattle.lpm_limits.specs.Limits.{IsConfig};
 
 use super::asserts::assert_at;
-use super::known::{assert_wrote, known_apply, known_lookup, known_storm};
+use super::known_files::{assert_wrote, known_apply, known_lookup, known_storm};
 use lpm_limits::Config;
 use test_support::Meeting;
 

@@ -1,13 +1,14 @@
 //! A file that is read, and a text that is written, in pieces on threads: as one thread does it.
 
 use super::asserts::assert_at;
-use super::known::Paths;
+use super::known_files::Paths;
 use lpm_bits::Hop;
 use lpm_files::{Failure, answers_text_on, read_addresses_on, read_routes_on};
 use route_text::{Fault, FaultKind, Route, answers_text, read_addresses, read_routes};
 use std::alloc::Global;
 use std::process::Abort;
 use std::thread::Threads;
+use test_support::hop;
 
 // How many lines the file has: they are over 400 KiB.
 const LINES: u32 = 40_000;
@@ -160,8 +161,11 @@ fn fault_in_a_piece_of_routes(rt: HostRuntime) {
 fn hops(rt: &impl Abort, alloc: Global) -> Vec<Option<Hop>> {
     let mut hops = Vec::new(alloc);
     for number in 0..LINES {
-        let hop = Hop::new(number).expect(rt, "a next hop");
-        let found = if number % 5 == 0 { None } else { Some(hop) };
+        let found = if number % 5 == 0 {
+            None
+        } else {
+            Some(hop(number))
+        };
         hops.push(found).expect(rt, "memory");
     }
     hops

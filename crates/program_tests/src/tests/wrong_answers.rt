@@ -9,7 +9,7 @@ use lpm_rules::{Answer, Change};
 use std::alloc::Global;
 use std::process::Abort;
 use std::thread::Threads;
-use test_support::{Edit, draw};
+use test_support::{Edit, draw, hop};
 
 type History = Vec<Change<24, 8>>;
 
@@ -19,11 +19,11 @@ type Answers = Vec<(u32, Answer)>;
 const ADDR: u32 = 0x0a00_0001;
 
 // The answer with the next hop of this number, or none for 0, of a version from `lo` to `hi`.
-fn answer(rt: &impl Abort, number: u32, lo: u64, hi: u64) -> Answer {
+fn answer(number: u32, lo: u64, hi: u64) -> Answer {
     if number == 0 {
         return Answer { hop: None, lo, hi };
     }
-    let hop = Some(Hop::new(number).expect(rt, "a next hop"));
+    let hop = Some(hop(number));
     Answer { hop, lo, hi }
 }
 
@@ -31,7 +31,7 @@ fn answer(rt: &impl Abort, number: u32, lo: u64, hi: u64) -> Answer {
 fn answers_for(rt: &impl Abort, alloc: Global, addr: u32, rows: &[(u32, u64, u64)]) -> Answers {
     let mut answers = Vec::new(alloc);
     for (number, lo, hi) in rows {
-        let answer = answer(rt, *number, *lo, *hi);
+        let answer = answer(*number, *lo, *hi);
         answers.push((addr, answer)).expect(rt, "memory");
     }
     answers
@@ -263,7 +263,7 @@ fn draw_answers(rt: &impl Abort, alloc: Global, seed: &mut u32) -> Answers {
             .saturating_add(u64::from(below(seed, 5)))
             .saturating_sub(1);
         let addr = 0x0a01_0100 | below(seed, 2).wrapping_mul(0x81);
-        let answer = answer(rt, below(seed, 4), lo, hi);
+        let answer = answer(below(seed, 4), lo, hi);
         answers.push((addr, answer)).expect(rt, "memory");
     }
     answers
@@ -307,10 +307,10 @@ fn long_answers(rt: &impl Abort, alloc: Global) -> Answers {
     for i in 0..CHANGES {
         let number = i.saturating_add(1);
         let version = u64::from(number);
-        let after = (block(i) | 255, answer(rt, number, version, version));
+        let after = (block(i) | 255, answer(number, version, version));
         answers.push(after).expect(rt, "memory");
         if i % 2 == 1 {
-            let before = (block(i), answer(rt, number, 0, u64::from(i)));
+            let before = (block(i), answer(number, 0, u64::from(i)));
             answers.push(before).expect(rt, "memory");
         }
     }

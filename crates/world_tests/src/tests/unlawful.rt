@@ -1,8 +1,8 @@
 // Runs that follow their schedules and break one law of traces, which the slow program refuses by that law.
 
 use super::asserts::assert_at;
+use super::faults::exchange;
 use super::plan::{ONE_GROUP, TWO_GROUPS, assert_refused, judged, planned, planned_for, run};
-use super::planted::exchange;
 use interleave::Seen;
 use lpm_limits::Config;
 use lpm_trace::{Actor, Deed, Kind, Step};

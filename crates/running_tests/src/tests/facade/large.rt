@@ -12,9 +12,7 @@ fn rules(rt: &impl Abort, alloc: Global) -> Vec<Rule> {
     let mut rules = Vec::new(alloc);
     for number in 0..COUNT {
         let back = COUNT - 1 - number;
-        rules
-            .push(rule(rt, back * 256, 24, back))
-            .expect(rt, "memory");
+        rules.push(rule(back * 256, 24, back)).expect(rt, "memory");
     }
     rules
 }

@@ -1,6 +1,6 @@
 use Rattle.std.proofs.Common.{◌≡◌, ◌∙◌, ap, rules, sym}
 use Rattle.shared_words.specs.Layout.{initial_state_of}
-use Rattle.shared_fib.specs.Lent.{LentSeat}
+use Rattle.shared_fib.specs.LentSeats.{LentSeat}
 use Rattle.shared_fib.proofs.SeatMemory.{either, on_ok_then}
 use Rattle.shared_fib.proofs.Tokens.{starts}
 use Rattle.shared_fib.proofs.grace.start_token.Goals as goal

@@ -5,7 +5,7 @@ use Rattle.lpm_writer.specs.declared.control.ControlState.{ControlState}
 use Rattle.lpm_writer.specs.Rest.{IsResting}
 use Rattle.lpm_writer.specs.Commands.{IsWaiting}
 use Rattle.shared_words.specs.Layout.{initial_state_of}
-use Rattle.shared_fib.specs.Lent.{LentSeat}
+use Rattle.shared_fib.specs.LentSeats.{LentSeat}
 use Rattle.shared_fib.proofs.SeatMemory.{Kept, kept, only_sees, rests_after, outcome_after}
 use Rattle.shared_fib.proofs.Synchronizations.{not_yet, still, once_more, at_last, queued_passed}
 use Rattle.shared_fib.proofs.synchronize.check_until_passed.Goals as goal

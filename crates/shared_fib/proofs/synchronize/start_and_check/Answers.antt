@@ -5,7 +5,7 @@ use Rattle.lpm_trace.specs.States.{InitialState}
 use Rattle.lpm_writer.specs.Commands.{IsWaiting}
 use Rattle.shared_words.specs.declared.view.View.{View}
 use Rattle.shared_words.specs.Layout.{initial_state_of}
-use Rattle.shared_fib.specs.Lent.{LentSeat, SharedDid}
+use Rattle.shared_fib.specs.LentSeats.{LentSeat, SharedDid}
 use Rattle.shared_fib.proofs.SeatMemory.{rests_after}
 use Rattle.shared_fib.proofs.Synchronizations.{exhausted_by, synchronized}
 use Rattle.shared_fib.proofs.synchronize.start_and_check.Goals as goal

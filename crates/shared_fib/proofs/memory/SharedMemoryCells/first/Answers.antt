@@ -1,7 +1,7 @@
 use Rattle.std.proofs.Common.{length, ap, arith, rules}
 use Rattle.shared_words.specs.Layout.{InitialData, initial_state_of}
 use Rattle.shared_words.proofs.WordPlaces.{firsts_length}
-use Rattle.shared_fib.specs.Lent.{LentSeat, state_of_lent}
+use Rattle.shared_fib.specs.LentSeats.{LentSeat, state_of_lent}
 use Rattle.shared_fib.proofs.memory.SharedMemoryCells.first.Goals as goal
 
 pub stored_first-requires-clause-index : goal.stored_first-requires-clause-index

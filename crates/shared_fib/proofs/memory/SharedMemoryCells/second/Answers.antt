@@ -1,7 +1,7 @@
 use Rattle.std.proofs.Common.{length, ap, arith, rules}
 use Rattle.shared_words.specs.Layout.{InitialData, initial_state_of}
 use Rattle.shared_words.proofs.WordPlaces.{seconds_length}
-use Rattle.shared_fib.specs.Lent.{LentSeat, state_of_lent}
+use Rattle.shared_fib.specs.LentSeats.{LentSeat, state_of_lent}
 use Rattle.shared_fib.proofs.memory.SharedMemoryCells.second.Goals as goal
 
 pub stored_second-requires-clause-index : goal.stored_second-requires-clause-index

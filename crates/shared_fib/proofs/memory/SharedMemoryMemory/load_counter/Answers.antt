@@ -1,7 +1,7 @@
 use Rattle.std.proofs.Common.{subst, sym}
 use Rattle.lpm_trace.specs.declared.step.WriterStep.{WriterStep}
 use Rattle.lpm_trace.specs.declared.step.WriterStep.TheVariants.{LoadCounter}
-use Rattle.shared_fib.specs.Lent.{LentSeat, SharedMay}
+use Rattle.shared_fib.specs.LentSeats.{LentSeat, SharedMay}
 use Rattle.shared_fib.specs.LentLaws.{shared_may}
 use Rattle.shared_fib.proofs.memory.SharedMemoryMemory.load_counter.Goals as goal
 

@@ -1,6 +1,6 @@
 use Rattle.std.proofs.Common.{◌≡◌}
 use Rattle.std.specs.Prelude.{true}
-use Rattle.running_tests.proofs.tests.sorted.assert_steps.Given as goal
+use Rattle.running_tests.proofs.tests.initial_rules.assert_steps.Given as goal
 
 abbrev pub invariant-loop-step : goal.invariant-loop-step
 invariant-loop-step g l = record {

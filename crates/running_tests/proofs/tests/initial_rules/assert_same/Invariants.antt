@@ -1,6 +1,6 @@
 use Rattle.std.proofs.Common.{◌≡◌}
 use Rattle.std.specs.Prelude.{true}
-use Rattle.running_tests.proofs.tests.sorted.assert_same.Given as goal
+use Rattle.running_tests.proofs.tests.initial_rules.assert_same.Given as goal
 
 abbrev pub invariant-loop-addr : goal.invariant-loop-addr
 invariant-loop-addr g l = record {

@@ -1,6 +1,6 @@
 use Rattle.std.proofs.Common.{◌≡◌}
 use Rattle.std.specs.Prelude.{true}
-use Rattle.running_tests.proofs.tests.sorted.assert_rows.Given as goal
+use Rattle.running_tests.proofs.tests.initial_rules.assert_rows.Given as goal
 
 abbrev pub invariant-loop-row : goal.invariant-loop-row
 invariant-loop-row g l = record {

@@ -1,6 +1,6 @@
 use Rattle.std.proofs.Common.{◌≡◌, map, take}
 use Rattle.lpm_commands.specs.FilledTable.{rule_of}
-use Rattle.lpm_commands.proofs.sorted_rules.rules_of_routes.Given as goal
+use Rattle.lpm_commands.proofs.sorted_rules.rule_list.Given as goal
 
 abbrev pub invariant-loop-route : goal.invariant-loop-route
 invariant-loop-route l = l.rules.items ≡ map rule_of (take l.route-index l.routes)
