@@ -113,7 +113,7 @@ one_more R i old new e y lt up now = record {
       let was : get_or new i e ≡ get_or old i d = get_or_default new i e d lt ∙ up.rest i d (omega arith) in
       place_more (λ (n : ℕ). R (get_or old n d)) i new y lt
       (λ n f less. subst (R (get_or old n d)) (get_or_default new n d f (omega (arith, less, lt))) (up.done n d less))
-      (subst (λ (u : Desk). R u y) was now) k d below;
+      (subst (λ (u : X). R u y) was now) k d below;
   rest = λ k d le.
       let other : k ≢ i = omega (arith, le) in
       get_or-set_other new i k y d other ∙ up.rest k d (omega (arith, le));

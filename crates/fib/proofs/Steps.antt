@@ -153,12 +153,12 @@ module _ (first second : ℕ) (c : InitialState) where
       let old : Passes token r.counters = λ w low. older_past token (state_after c x.1).passed (slice_index r.counters w) h.0 (k.passed w low) in
       (subst (λ a. looks IsFirstByCounter r token a r) (sym h.1) (none_holds token r old, refl), subst (λ y. Shows y r) (sym h.2) k)
   checked x z r token (Ok passed) k (inr h) =
-      let all = asked c.workers token x z r k h.1 in
+      let all = loads c.workers token x z r k h.1 in
       let workers = k.workers in
       ((none_holds token r (λ w low. all.1 w (omega (arith, low, workers))), refl), all.0)
   checked x z r token (Err busy) k (inr h) =
       let stop = h.1 in
-      let before = asked busy.worker token x stop.0 r k stop.1 in
+      let before = loads busy.worker token x stop.0 r k stop.1 in
       let now = loaded busy.worker token busy.counter stop.0 z r before.0 before.1 stop.5 in
       let workers = k.workers in
       let low = stop.2 in (

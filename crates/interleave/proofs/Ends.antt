@@ -257,8 +257,8 @@ traces_are_lawful c steps start trace = record {
   versions = λ a t u later. versions_never_fall c steps a t u later;
 }
 
-opening_agrees : (f g : ℕ) (config : Config) → AgreesWithSteps f g (blank_state f g config) initial_state_by_steps
-opening_agrees f g config = record {
+initial_agrees : (f g : ℕ) (config : Config) → AgreesWithSteps f g (blank_state f g config) initial_state_by_steps
+initial_agrees f g config = record {
   begun = refl;
   rules = refl;
   represents = (blank f g (config.groups * 2 ^ g) config.groups).0;
@@ -277,20 +277,20 @@ opening_agrees f g config = record {
     not_retired token e = cc
 
 pub initial_states_are_settled : InitialStatesAreSettled
-initial_states_are_settled f g config limits = (settled f g config limits, opening_agrees f g config)
+initial_states_are_settled f g config limits = (settled f g config limits, initial_agrees f g config)
 
 -- changes that came out keep that agreement
-last_agrees : (c : InitialState) (f g : ℕ) (config : Config) (n : ℕ) (opening : StateBySteps) (log : List (Change f g × Reply)) (last : StateBySteps)
-    → AgreesWithSteps f g c opening → HaveComeOut c f g config n opening log last → AgreesWithSteps f g c last
-last_agrees c f g config n opening [] last rest h = subst (AgreesWithSteps f g c) (sym h) rest
-last_agrees c f g config n opening (entry ∷ log) last rest h = h.4.1
+last_agrees : (c : InitialState) (f g : ℕ) (config : Config) (n : ℕ) (initial : StateBySteps) (log : List (Change f g × Reply)) (last : StateBySteps)
+    → AgreesWithSteps f g c initial → HaveComeOut c f g config n initial log last → AgreesWithSteps f g c last
+last_agrees c f g config n initial [] last rest h = subst (AgreesWithSteps f g c) (sym h) rest
+last_agrees c f g config n initial (entry ∷ log) last rest h = h.4.1
 
 pub runs_are_lawful : RunsAreLawful
 runs_are_lawful f g config script scripts schedule shown limits run =
     let c = blank_state f g config in (
       traces_are_lawful c run.steps (settled f g config limits) (older_trace c (map Writer run.beyond) run.steps run.trace.may_come),
       λ worker. ap (seen_of worker) run.shows_lookups ∙ seen_finished worker run.steps,
-      last_agrees c f g config (writer_items schedule) initial_state_by_steps run.trace.performed.log run.trace.performed.last (opening_agrees f g config) run.trace.performed.answered,
+      last_agrees c f g config (writer_items schedule) initial_state_by_steps run.trace.performed.log run.trace.performed.last (initial_agrees f g config) run.trace.performed.answered,
     )
 
 -- What no step of the writer changes: the scripts and the schedule.

@@ -46,16 +46,16 @@ pub begins : (first second groups token : ℕ) (words : Words) (machines : List 
     → words.firsts ≡ replicate (2 ^ first) (word_of Miss) → words.seconds ≡ replicate (groups * 2 ^ second) (word_of Miss)
     → AreNew (length scripts) machines → All (IsSound (2 ^ (first + second))) scripts
     → WorldDid first second (unused words token machines scripts schedule) c []
-begins first second groups token words machines scripts schedule c opening firsts seconds new sound = (
+begins first second groups token words machines scripts schedule c initial firsts seconds new sound = (
   [],
   [],
   record {
-    first_bits = opening.first_bits;
-    second_bits = opening.second_bits;
-    workers = opening.worker_count;
+    first_bits = initial.first_bits;
+    second_bits = initial.second_bits;
+    workers = initial.worker_count;
     may_come = tt;
     words_are = same;
-    token_is = sym opening.first_token;
+    token_is = sym initial.first_token;
     sequence_is = refl;
     made = refl;
     shown = refl;
@@ -70,8 +70,8 @@ begins first second groups token words machines scripts schedule c opening first
   where
     same : words ≡ c.words
     same =
-        ap (λ xs. record { firsts = xs; seconds = words.seconds }) (firsts ∙ sym opening.firsts)
-        ∙ ap (λ xs. record { firsts = c.words.firsts; seconds = xs }) (seconds ∙ sym opening.seconds)
+        ap (λ xs. record { firsts = xs; seconds = words.seconds }) (firsts ∙ sym initial.firsts)
+        ∙ ap (λ xs. record { firsts = c.words.firsts; seconds = xs }) (seconds ∙ sym initial.seconds)
 
     at : AreAt first second (length c.words.seconds) machines scripts []
     at k inside =

@@ -16,7 +16,7 @@ use Rattle.lpm_trace.specs.declared.step.TraceStep.TheVariants.{Worker as ByWork
 use Rattle.lpm_trace.specs.States.{InitialState, TableState, state_after, begun_at}
 use Rattle.lpm_trace.specs.declared.step.WorkerStep.TheVariants.{LoadOnline, LoadQuiescent, BeginLookup, LoadFirst, LoadSecond, EndLookup, MeetWriter}
 use Rattle.lpm_trace.specs.Trace.{Worker, Probe, Unread, InGroup, Answered, FinishedLookup, with_answers, worker_by_step, MayRead, after, MayCome, writes, worker_of, IsNextFirst, IsNextSecond, AreBegun, AreAnswered, IsBetweenDeeds}
-use Rattle.lpm_trace.proofs.Traces.{tables_of}
+use Rattle.lpm_trace.proofs.Traces.{state_is}
 use Rattle.interleave.specs.declared.finished_lookups.Seen.{Seen}
 use Rattle.interleave.specs.declared.worker.Worker.{Worker as Machine}
 use Rattle.interleave.specs.Machine.{IsAt, IsOf, IsNoted, Advances, probe_of, Shows}
@@ -207,7 +207,7 @@ turn_moves first second v c whole trace k next now script m step seen more when 
     let machines : k < length v.machines = omega arith in
     let time : now ≡ suc (length trace) = when ∙ ap suc (ap length world.shown ∙ shown_steps c trace) in
     let read : MayRead c (state_after c (writes trace)) ((after c trace).workers k) s = may_by_place c trace (state_after c (writes trace)) ((after c trace).workers k) (worker_of k trace) (clocks_agree c trace k) s adv.may in
-    let may : MayCome c (after c trace) (ByWorker k s) = (subst (λ n. k < n) (sym world.workers) inside, subst (λ w. MayRead c w ((after c trace).workers k) s) (sym (tables_of c trace)) read) in (
+    let may : MayCome c (after c trace) (ByWorker k s) = (subst (λ n. k < n) (sym world.workers) inside, subst (λ w. MayRead c w ((after c trace).workers k) s) (sym (state_is c trace)) read) in (
       later,
       record {
         first_bits = world.first_bits;
@@ -321,7 +321,7 @@ recorded_world first second v c trace s world turn may found = record {
     one =
         ap (λ n. shown_write n v.token s) world.sequence_is
         ∙ ap (λ n. shown_write (state_after c (writes trace)).sequence n s) world.token_is
-        ∙ ap (λ w. shown_write w.sequence w.token s) (sym (tables_of c trace))
+        ∙ ap (λ w. shown_write w.sequence w.token s) (sym (state_is c trace))
 
 some_beyond : (s : WriterStep) (beyond : List WriterStep) → s ∷ beyond ≡ [] → ⊥
 some_beyond s beyond e = cc

@@ -45,13 +45,13 @@ waits_longer c n x z h =
 
 -- ---- the script
 
-module _ (c : InitialState) (f g : ℕ) (config : Config) (n : ℕ) (opening : StateBySteps) where
+module _ (c : InitialState) (f g : ℕ) (config : Config) (n : ℕ) (initial : StateBySteps) where
   -- these changes were answered so, and left `last`
   pub record HasPerformed (changes : List (Change f g)) (replies : List Reply) (last : StateBySteps) : Type 0 where
     pub log : List (Change f g × Reply)
     pub changes_are : changes ≡ reverse (map (λ entry. entry.0) log)
     pub replies_are : replies ≡ reverse (map (λ entry. entry.1) log)
-    pub answered : HaveComeOut c f g config n opening log last
+    pub answered : HaveComeOut c f g config n initial log last
 
   pub performed_more : (changes : List (Change f g)) (replies : List Reply) (last : StateBySteps) (change : Change f g) (reply : Reply) (z : StateBySteps)
       → HasPerformed changes replies last → length last.readers < n → length z.readers ≤ n → CameOut c f g config last change reply z
@@ -65,7 +65,7 @@ module _ (c : InitialState) (f g : ℕ) (config : Config) (n : ℕ) (opening : S
 
   performed_with : (changes left : List (Change f g)) (replies : List Reply) (last : StateBySteps) (steps : List WriterStep)
       → HasPerformed changes replies last → AreUnanswered c f g config n last left steps
-      → IsPerformed c f g config n opening (changes ++ left) replies steps
+      → IsPerformed c f g config n initial (changes ++ left) replies steps
   performed_with changes left replies last steps h rest = record {
     log = h.log;
     left = left;
@@ -77,20 +77,20 @@ module _ (c : InitialState) (f g : ℕ) (config : Config) (n : ℕ) (opening : S
   }
 
   pub performed_all : (changes : List (Change f g)) (replies : List Reply) (last : StateBySteps)
-      → HasPerformed changes replies last → IsPerformed c f g config n opening changes replies last.readers
+      → HasPerformed changes replies last → IsPerformed c f g config n initial changes replies last.readers
   performed_all changes replies last h =
-      subst (λ xs. IsPerformed c f g config n opening xs replies last.readers) (append-nil changes)
+      subst (λ xs. IsPerformed c f g config n initial xs replies last.readers) (append-nil changes)
       (performed_with changes [] replies last last.readers h refl)
 
   pub performed_before : (changes left : List (Change f g)) (replies : List Reply) (last : StateBySteps) (change : Change f g)
       → HasPerformed changes replies last → n ≤ length last.readers
-      → IsPerformed c f g config n opening (changes ++ change ∷ left) replies last.readers
+      → IsPerformed c f g config n initial (changes ++ change ∷ left) replies last.readers
   performed_before changes left replies last change h none =
       performed_with changes (change ∷ left) replies last last.readers h (inl (none, refl))
 
   pub performed_within : (changes left : List (Change f g)) (replies : List Reply) (last : StateBySteps) (change : Change f g)
       (steps : List WriterStep) → HasPerformed changes replies last → length last.readers < n → n < length steps
       → IsUnderWay c f g config last change steps
-      → IsPerformed c f g config n opening (changes ++ change ∷ left) replies steps
+      → IsPerformed c f g config n initial (changes ++ change ∷ left) replies steps
   performed_within changes left replies last change steps h low high way =
       performed_with changes (change ∷ left) replies last steps h (inr (low, high, way))

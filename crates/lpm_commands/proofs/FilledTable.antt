@@ -460,7 +460,7 @@ put_groups R p h false brings = elim (grouped R p h) [
 
 -- the rules of one route more
 pub rules_read : (routes : List Route) (i : ℕ) (r : Route) → i < length routes → r ≡ get_or routes i r → rules_of_routes (take (i + 1) routes) ≡ insert (rules_of_routes (take i routes)) r.prefix r.hop
-rules_read routes i r within read = ap rules_of_routes (take_read routes i r within read) ∙ rules_after-more empty (take i routes) r
+rules_read routes i r within read = ap rules_of_routes (take_read routes i r within read) ∙ with_routes-more empty (take i routes) r
 
 -- the first route that is refused stands at this place of the routes
 pub refused_at : (c : Config) (routes : List Route) (i : ℕ) (r : Route) (l : RuleList) (refusal : Refusal) → i < length routes → r ≡ get_or routes i r → length routes ≤ 2 ^ 61 → l.rules ≡ rules_of_routes (take i routes) → l.max ≡ c.rules → len l.rules ≤ l.max → in_use l.rules ≤ c.groups → (0 < length routes → c.first_token + c.groups ≤ 2 ^ 62) → refusal ≢ Memory → Refuses c.groups l r.prefix refusal → IsFirstRefused c routes r.line refusal

@@ -109,7 +109,7 @@ added_readers c s z p h Added none adds = adds.1.2.2 ∙ (adds.1.2.1 ∙ (adds.1
 pub loaded_more : (c : Config) (xs : List Route) (s z : State Registry) (r : Route) (put : Put) → IsLoaded c xs s → Adds counter_transitions 24 8 c s r.prefix r.hop (Ok put) z → IsLoaded c (xs ++ r ∷ []) z
 loaded_more c xs s z r put loaded adds = record {
   loads = Loads-append c (initial_by_counters c) s z xs r put loaded.loads adds;
-  rules = added_rules c s z r.prefix r.hop put adds ∙ (ap (λ (R : RuleMap). insert R r.prefix r.hop) loaded.rules ∙ sym (rules_after-more empty xs r));
+  rules = added_rules c s z r.prefix r.hop put adds ∙ (ap (λ (R : RuleMap). insert R r.prefix r.hop) loaded.rules ∙ sym (with_routes-more empty xs r));
   readers = added_readers c s z r.prefix r.hop put loaded.limbo adds ∙ loaded.readers;
   limbo = added_limbo c s z r.prefix r.hop put loaded.limbo adds;
 }

@@ -40,9 +40,9 @@ pub record IsLookupText (c : Config) (routes addresses : Option (List ℕ)) (tex
   pub answered : IsAnswered c (rules_of_routes list) addrs text
 
 -- what addresses that were not answered end the run with
-abbrev pub ending_of : BulkError → Failure
-ending_of bulks.NoWorkers = Refused NoWorkers
-ending_of bulks.Memory = Memory
+abbrev pub bulk_ending : BulkError → Failure
+bulk_ending bulks.NoWorkers = Refused NoWorkers
+bulk_ending bulks.Memory = Memory
 
 -- answering addresses by so many workers ends so: there is none of them, or no memory
 abbrev pub EndsAnswering : ℕ → Failure → Type 0

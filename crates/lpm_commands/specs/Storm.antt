@@ -81,17 +81,17 @@ pub record IsStormText (c : Config) (rounds : ℕ) (is_stuck : Bool)
   pub came : IsTextOver c rounds is_stuck list orders addrs text
 
 -- what a storm that came to nothing ends the run with
-abbrev pub ending_of : StormError → Failure
-ending_of errors.NoWorkers = failures.Refused refusals.NoWorkers
-ending_of errors.BadConfig = failures.Refused refusals.BadConfig
-ending_of errors.Exhausted = failures.Refused refusals.Exhausted
-ending_of errors.NoThread = failures.Refused refusals.NoThread
-ending_of errors.Memory = failures.Memory
+abbrev pub storm_ending : StormError → Failure
+storm_ending errors.NoWorkers = failures.Refused refusals.NoWorkers
+storm_ending errors.BadConfig = failures.Refused refusals.BadConfig
+storm_ending errors.Exhausted = failures.Refused refusals.Exhausted
+storm_ending errors.NoThread = failures.Refused refusals.NoThread
+storm_ending errors.Memory = failures.Memory
 
 -- the storm of this plan ends so, on its table
 abbrev pub EndsRunning : Plan 24 8 → Failure → Type 0
 EndsRunning plan failure =
-    (error : StormError) × EndsStorm plan error × (failure ≡ ending_of error)
+    (error : StormError) × EndsStorm plan error × (failure ≡ storm_ending error)
 
 -- the storm of this plan, which can be run, ends so: by loading the routes of the file of this path, else
 -- on the table that these make
@@ -103,7 +103,7 @@ EndsAfter plan file list failure = EndsLoading (limits_of plan) file list failur
 -- else by its routes, or on its table
 abbrev pub EndsBy : Plan 24 8 → List ℕ → List Route → Failure → Type 0
 EndsBy plan file list failure = (failure ≡ failures.Memory)
-    ⊎ ((error : StormError) × EndsBefore plan error × (failure ≡ ending_of error))
+    ⊎ ((error : StormError) × EndsBefore plan error × (failure ≡ storm_ending error))
     ⊎ (IsInRange plan × EndsAfter plan file list failure)
 
 -- the storm of these routes, updates and addresses ends so

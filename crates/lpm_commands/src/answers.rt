@@ -1,7 +1,7 @@
 //! The text of the answers to addresses, by a table of one thread or by a running one.
 ghost use Rattle.std.specs.Prelude.{◌≡◌, ◌<◌, IfOk, IfErr};
 ghost use Rattle.shared_fib.specs.Passes.{IsFullBench};
-ghost use Rattle.lpm_commands.specs.Lookup.{IsAnswerText, IsAnswered, EndsAnswering, ending_of};
+ghost use Rattle.lpm_commands.specs.Lookup.{IsAnswerText, IsAnswered, EndsAnswering, bulk_ending};
 
 use crate::tables::Running;
 use bulk::{BulkError, Gate, bulk, bulk_plain, seat_all};
@@ -27,7 +27,7 @@ pub fn text_of_answers<'a, R: Threads + Sync, G: Gate>(
     let workers = table.config().workers;
     let hops = match bulk_plain(rt, alloc, table, workers, addrs, gate) {
         Ok(hops) => hops,
-        Err(error) => return Err(ending_of(error)),
+        Err(error) => return Err(bulk_ending(error)),
     };
     Ok(answers_text_on(rt, alloc, addrs, &hops, workers)?)
 }
@@ -56,7 +56,7 @@ pub fn text_of_live_answers<'a, R: Threads + Sync, G: Gate>(
     let seats = desks.as_mut_slice();
     let hops = match bulk(rt, alloc, table, &mut running.writer, seats, addrs, gate) {
         Ok(hops) => hops,
-        Err(error) => return Err(ending_of(error)),
+        Err(error) => return Err(bulk_ending(error)),
     };
     drop(desks);
     drop(running);
@@ -64,8 +64,8 @@ pub fn text_of_live_answers<'a, R: Threads + Sync, G: Gate>(
 }
 
 // What addresses that were not answered end the run with.
-fn ending_of<'a>(error: BulkError) -> Failure<'a>
-    ensures { result ≡ ending_of error }
+fn bulk_ending<'a>(error: BulkError) -> Failure<'a>
+    ensures { result ≡ bulk_ending error }
 {
     match error {
         BulkError::NoWorkers => Failure::Refused {

@@ -8,7 +8,7 @@ ghost use Rattle.lpm_files.specs.Output.{Writes, WritesBeginning};
 ghost use Rattle.storm.specs.Writer.{IsForWriter, is_for_writer};
 ghost use Rattle.storm.specs.Storm.{EndsStorm, IsInRange, IsStorm, limits_of};
 ghost use Rattle.lpm_commands.specs.Load.{rules_of_routes};
-ghost use Rattle.lpm_commands.specs.Storm.{IsStormText, IsTextAfter, IsTextOf, IsTextOver, ending_of, with_versions};
+ghost use Rattle.lpm_commands.specs.Storm.{IsStormText, IsTextAfter, IsTextOf, IsTextOver, storm_ending, with_versions};
 ghost use Rattle.lpm_commands.specs.Storm.{EndsAfter, EndsBy, EndsOver, EndsRunning, EndsStormRun, orders_for_writer};
 
 use crate::sorted_rules::rule_list;
@@ -162,7 +162,7 @@ fn text_of_plan<'a, R: Threads + Wait + Sync, G: Gate>(
 {
     match plan.table_limits() {
         Ok(limits) => text_on_routes(rt, alloc, plan, path, routes, limits, gate),
-        Err(error) => Err(ending_of(error)),
+        Err(error) => Err(storm_ending(error)),
     }
 }
 
@@ -213,7 +213,7 @@ fn text_on_table<'a, R: Threads + Wait + Sync, G: Gate>(
 {
     match report_on(rt, alloc, plan, running, gate) {
         Ok(report) => Ok(storm_text(alloc, &with_versions(report, versions))?),
-        Err(error) => Err(ending_of(error)),
+        Err(error) => Err(storm_ending(error)),
     }
 }
 
@@ -261,8 +261,8 @@ fn with_versions(report: StormReport, versions: u64) -> StormReport
 }
 
 // What a storm that came to nothing ends the run with.
-fn ending_of<'a>(error: StormError) -> Failure<'a>
-    ensures { result ≡ ending_of error }
+fn storm_ending<'a>(error: StormError) -> Failure<'a>
+    ensures { result ≡ storm_ending error }
 {
     match error {
         StormError::NoWorkers => Failure::Refused {

@@ -45,7 +45,7 @@ pub(crate) fn show_run<R: Print>(rt: &R, alloc: Global) -> Result<()> {
         (Actor::Writer, 1),
     ];
     let schedule = schedule_of(alloc, &turns)?;
-    print_trace(rt, &run(alloc, &changes, &deeds, &schedule)?)
+    print_trace(rt, &run_with_worker(alloc, &changes, &deeds, &schedule)?)
 }
 
 /// Makes a run of so many steps, half of them the writer's, and prints how long it took.
@@ -58,7 +58,7 @@ pub(crate) fn time_run<R: Clock + Print>(rt: &R, alloc: Global, steps: usize) ->
     let turns = repeated(alloc, &[(Actor::Writer, 1), (WORKER, 1)], steps / 2)?;
     let schedule = schedule_of(alloc, &turns)?;
     let start = Instant::now(rt)?;
-    let trace = run(alloc, &changes, &deeds, &schedule)?;
+    let trace = run_with_worker(alloc, &changes, &deeds, &schedule)?;
     let taken = start.elapsed(rt)?;
     println!(rt;
         "{} steps, {} lookups: {:?}",
@@ -93,7 +93,7 @@ fn repeated<T: Copy>(alloc: Global, items: &[T], times: usize) -> Result<Vec<T>,
 }
 
 /// The run of these changes and of one worker's deeds.
-fn run(
+fn run_with_worker(
     alloc: Global,
     changes: &[Change<4, 4>],
     deeds: &[Deed],

@@ -8,14 +8,14 @@ ghost use Rattle.lpm_options.specs.Commands.{the_app};
 ghost use Rattle.lpm_options.specs.Requests.{IsAskedBy, IsInRange, HasTwoStandardInputs, IsRefusalBy};
 
 mod commands;
-mod explain;
+mod explain_request;
 mod help;
 mod requests;
 
 use clap::error::ErrorKind;
 use clap::{ArgMatches, Error};
 use commands::whole_command;
-use explain::explain_line;
+use explain_request::explain_line;
 use lpm_limits::Config;
 use requests::{command_line, has_two_standard_inputs};
 use std::alloc::Global;

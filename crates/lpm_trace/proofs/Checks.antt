@@ -8,7 +8,7 @@ use Rattle.lpm_trace.specs.States.{InitialState, TableState, state_after, MayWri
 use Rattle.lpm_trace.specs.Progress.{progress_by_step, Follows}
 use Rattle.lpm_trace.specs.Trace.{after, writes, IsTrace}
 use Rattle.lpm_trace.specs.Writer.{progress_after, counter_found, Finds, WriterIsAlone, WriterGoesOn, passed_after}
-use Rattle.lpm_trace.proofs.Traces.{tables_of}
+use Rattle.lpm_trace.proofs.Traces.{state_is}
 use Rattle.std.proofs.lemmas.Bool.Decides.{eqb_tells}
 use Rattle.std.proofs.lemmas.Bool.{cases_lt}
 use Rattle.lpm_trace.specs.Laws.{HasLetPass, IsChecked, PassedIsChecked, WordsAreEntries}
@@ -43,8 +43,8 @@ writer_is_alone c (Writer s ∷ steps) trace =
     let w = (after c steps).state in
     let may = by_found c (λ k. ((after c steps).workers k).counter) w s trace.0.0 in (
       (
-        subst (λ t. MayWrite c (counter_found s) t s) (tables_of c steps) may,
-        subst (λ t. Follows c t (progress_after c (writes steps)) s) (tables_of c steps) (subst (λ x. Follows c w x s) (course_of c steps) trace.0.1),
+        subst (λ t. MayWrite c (counter_found s) t s) (state_is c steps) may,
+        subst (λ t. Follows c t (progress_after c (writes steps)) s) (state_is c steps) (subst (λ x. Follows c w x s) (progress_is c steps) trace.0.1),
       ),
       writer_is_alone c steps trace.1,
     )
@@ -53,8 +53,8 @@ writer_is_alone c (ByWorker k s ∷ steps) trace = writer_is_alone c steps trace
 pub writer_goes_on : WriterGoesOn
 writer_goes_on c steps s trace may finds = (
   (
-    by_counters c steps (after c steps).state s finds (subst (λ t. MayWrite c (counter_found s) t s) (sym (tables_of c steps)) may.0),
-    subst (λ t. Follows c t (after c steps).progress s) (sym (tables_of c steps)) (subst (λ x. Follows c (state_after c (writes steps)) x s) (sym (course_of c steps)) may.1),
+    by_counters c steps (after c steps).state s finds (subst (λ t. MayWrite c (counter_found s) t s) (sym (state_is c steps)) may.0),
+    subst (λ t. Follows c t (after c steps).progress s) (sym (state_is c steps)) (subst (λ x. Follows c (state_after c (writes steps)) x s) (sym (progress_is c steps)) may.1),
   ),
   trace,
 )
@@ -136,7 +136,7 @@ scan_is_sound_in_trace : (c : InitialState) (steps : List TraceStep) → IsTrace
 scan_is_sound_in_trace c [] trace = record { scanned = λ k lt. absurd (omega (arith, lt)); passed = inl refl }
 scan_is_sound_in_trace c (Writer s ∷ steps) trace =
     scan_is_sound_more c (λ k. ((after c steps).workers k).counter) (writes steps) s (scan_is_sound_in_trace c steps trace.1)
-    (subst (λ w. MayWrite c (λ k. ((after c steps).workers k).counter) w s) (tables_of c steps) trace.0.0)
+    (subst (λ w. MayWrite c (λ k. ((after c steps).workers k).counter) w s) (state_is c steps) trace.0.0)
 scan_is_sound_in_trace c (ByWorker k s ∷ steps) trace = scan_is_sound_in_trace c steps trace.1
 
 pub passed_is_checked : PassedIsChecked

@@ -14,7 +14,7 @@ use Rattle.lpm_trace.specs.Trace.{Worker, worker_by_step, MayRead, IsRunning, af
 use Rattle.lpm_trace.specs.Laws.{begins, ends, by_steps, Unlinks, ReuseIsLawful}
 use Rattle.lpm_trace.proofs.Versions.{with_at-same, by_number}
 use Rattle.lpm_trace.proofs.WriterStores.{stamped_le, stamped_ge}
-use Rattle.lpm_trace.proofs.Traces.{oldest_old, oldest_all, clock_length, tables_of, after_grace}
+use Rattle.lpm_trace.proofs.Traces.{oldest_old, oldest_all, clock_length, state_is, after_grace}
 use Rattle.lpm_trace.proofs.Moments.{count, count_old, count_le}
 
 -- ---- a reader interval that runs
@@ -61,7 +61,7 @@ running_since c (Writer s ∷ steps) trace k start runs = elim (since_cases by_s
 running_since c (ByWorker j s ∷ steps) trace k start runs =
     let w = (after c steps).workers in
     let now = (after c steps).state.clock in
-    let clock : now ≡ length (writes steps) = ap (λ t. t.clock) (tables_of c steps) ∙ clock_length c (writes steps) in
+    let clock : now ≡ length (writes steps) = ap (λ t. t.clock) (state_is c steps) ∙ clock_length c (writes steps) in
     let whole : count (ByWorker j s ∷ steps) (length steps) ≡ length (writes steps) = count_old (ByWorker j s) steps (length steps) (omega arith) ∙ ap (λ l. length (writes l)) (oldest_all steps (length steps) (omega arith)) in
     by_number (λ b. KnowsInterval c (ByWorker j s ∷ steps) k (cond b (worker_by_step now (w j) s) (w k)) start) k j
     (λ h. elim (since_cases by_steps (ByWorker j s) steps k start runs) [

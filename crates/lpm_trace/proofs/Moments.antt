@@ -14,7 +14,7 @@ use Rattle.lpm_trace.specs.States.{InitialState, IsAnswer, begun_at, version, ol
 use Rattle.lpm_trace.specs.Trace.{Worker, Probe, Unread, InGroup, Answered, FinishedLookup, read_first, first_read, second_read, with_answers, worker_by_step, after, writes, worker_of}
 use Rattle.lpm_trace.specs.Laws.{IsLegalAtPlace, at_moment, rules_of_version, IsLegal, LookupsAreLegal, VersionsNeverFall}
 use Rattle.lpm_trace.proofs.Versions.{by_number, Each, each_all, version_ge, version_le}
-use Rattle.lpm_trace.proofs.Traces.{oldest_case, oldest_old, oldest_new, oldest_all, clock_length, tables_of, rising, all_right}
+use Rattle.lpm_trace.proofs.Traces.{oldest_case, oldest_old, oldest_new, oldest_all, clock_length, state_is, rising, all_right}
 
 -- ---- how many of the first n steps are the writer's
 
@@ -188,7 +188,7 @@ clocks_agree c (ByWorker j s ∷ steps) k =
     let w = (after c steps).workers in
     let more = ByWorker j s ∷ steps in
     let here = clocks_agree c steps k in
-    let clock : (after c steps).state.clock ≡ length (writes steps) = ap (λ t. t.clock) (tables_of c steps) ∙ clock_length c (writes steps) in
+    let clock : (after c steps).state.clock ≡ length (writes steps) = ap (λ t. t.clock) (state_is c steps) ∙ clock_length c (writes steps) in
     let count_all : count more (suc (length steps)) ≡ length (writes steps) = ap (λ l. length (writes l)) (oldest_all more (suc (length steps)) (omega arith)) in
     by_number (λ b. Agrees more (cond b (worker_by_step (after c steps).state.clock (w j) s) (w k)) (cond b (worker_by_step (suc (length steps)) (worker_of k steps) s) (worker_of k steps))) k j
     (λ h. subst (λ i. Agrees more (worker_by_step (after c steps).state.clock (w i) s) (worker_by_step (suc (length steps)) (worker_of k steps) s)) h.1

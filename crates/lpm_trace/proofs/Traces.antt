@@ -48,10 +48,10 @@ pub at_now : (c : InitialState) (ws : List WriterStep) → state_at c ws (length
 at_now c ws = ap (state_after c) (oldest_all ws (length ws) (omega arith))
 
 -- what the workers do changes no table
-pub tables_of : (c : InitialState) (steps : List TraceStep) → (after c steps).state ≡ state_after c (writes steps)
-tables_of c [] = refl
-tables_of c (Writer s ∷ steps) = ap (λ w. state_by_step c w s) (tables_of c steps)
-tables_of c (ByWorker k s ∷ steps) = tables_of c steps
+pub state_is : (c : InitialState) (steps : List TraceStep) → (after c steps).state ≡ state_after c (writes steps)
+state_is c [] = refl
+state_is c (Writer s ∷ steps) = ap (λ w. state_by_step c w s) (state_is c steps)
+state_is c (ByWorker k s ∷ steps) = state_is c steps
 
 abbrev pub told_by : InitialState → List WriterStep → Told
 told_by c ws t a lo x = (answer c (state_at c ws t).words a ≡ x) × (lo ≤ updates_done_in (state_at c ws t))
@@ -145,21 +145,21 @@ pub good_trace : (c : InitialState) → IsSettled c → (steps : List TraceStep)
 good_trace c settled [] trace = start_good c settled
 good_trace c settled (Writer s ∷ steps) trace =
     good_write c (writes steps) (after c steps).workers (good_trace c settled steps trace.1) s
-    (subst (λ w. MayWrite c (λ k. ((after c steps).workers k).counter) w s) (tables_of c steps) trace.0.0)
+    (subst (λ w. MayWrite c (λ k. ((after c steps).workers k).counter) w s) (state_is c steps) trace.0.0)
 good_trace c settled (ByWorker k s ∷ steps) trace =
     let good = good_trace c settled steps trace.1 in
     let w = state_after c (writes steps) in
     let A : Told = told_by c (writes steps) in
     let Hi : ℕ → ℕ → Type 0 = hi_by c (writes steps) in
     let r = (after c steps).workers k in
-    let ok : WorkerOk c A Hi w k (worker_by_step w.clock r s) = worker_moves c A Hi w (after c steps).workers good k trace.0.0 r (good.workers_ok k) s (subst (λ v. MayRead c v ((after c steps).workers k) s) (tables_of c steps) trace.0.1) in
+    let ok : WorkerOk c A Hi w k (worker_by_step w.clock r s) = worker_moves c A Hi w (after c steps).workers good k trace.0.0 r (good.workers_ok k) s (subst (λ v. MayRead c v ((after c steps).workers k) s) (state_is c steps) trace.0.1) in
     record {
       token = good.token;
       passed = good.passed;
       scan = good.scan;
       unlinked = good.unlinked;
       linked = good.linked;
-      workers_ok = λ j. subst (λ v. WorkerOk c A Hi w j (with_at (after c steps).workers k (worker_by_step v.clock r s) j)) (sym (tables_of c steps))
+      workers_ok = λ j. subst (λ v. WorkerOk c A Hi w j (with_at (after c steps).workers k (worker_by_step v.clock r s) j)) (sym (state_is c steps))
           (with_at_case (WorkerOk c A Hi w j) (after c steps).workers k (worker_by_step w.clock r s) j
           (λ e. subst (λ x. WorkerOk c A Hi w x (worker_by_step w.clock r s)) (sym e) ok)
           (λ ne. good.workers_ok j));
@@ -168,17 +168,17 @@ good_trace c settled (ByWorker k s ∷ steps) trace =
     }
 
 -- what the words show, after the writer's steps and after the first t of them
-pub shows_tables : (c : InitialState) → IsSettled c → (steps : List TraceStep) → IsTrace c steps → Shows c (state_after c (writes steps))
-shows_tables c settled [] trace = opening_shows c settled
-shows_tables c settled (Writer s ∷ steps) trace =
-    keeps_shows c (λ k. ((after c steps).workers k).counter) (state_after c (writes steps)) (shows_tables c settled steps trace.1) s
-    (subst (λ w. MayWrite c (λ k. ((after c steps).workers k).counter) w s) (tables_of c steps) trace.0.0)
-shows_tables c settled (ByWorker k s ∷ steps) trace = shows_tables c settled steps trace.1
+pub shows_state : (c : InitialState) → IsSettled c → (steps : List TraceStep) → IsTrace c steps → Shows c (state_after c (writes steps))
+shows_state c settled [] trace = initial_shows c settled
+shows_state c settled (Writer s ∷ steps) trace =
+    keeps_shows c (λ k. ((after c steps).workers k).counter) (state_after c (writes steps)) (shows_state c settled steps trace.1) s
+    (subst (λ w. MayWrite c (λ k. ((after c steps).workers k).counter) w s) (state_is c steps) trace.0.0)
+shows_state c settled (ByWorker k s ∷ steps) trace = shows_state c settled steps trace.1
 
 pub shows_at : (c : InitialState) → IsSettled c → (steps : List TraceStep) → IsTrace c steps → (t : ℕ) → Shows c (state_at c (writes steps) t)
-shows_at c settled [] trace t = opening_shows c settled
+shows_at c settled [] trace t = initial_shows c settled
 shows_at c settled (Writer s ∷ steps) trace t = oldest_case (λ l. Shows c (state_after c l)) s (writes steps) t
-    (λ _. shows_tables c settled (Writer s ∷ steps) trace)
+    (λ _. shows_state c settled (Writer s ∷ steps) trace)
     (λ _. shows_at c settled steps trace.1 t)
 shows_at c settled (ByWorker k s ∷ steps) trace t = shows_at c settled steps trace.1 t
 
@@ -231,7 +231,7 @@ after_grace c settled steps trace j x may k run =
     let r = (after c steps).workers k in
     let g = j / 2 ^ c.second in
     let ok = (good_trace c settled steps trace).workers_ok k in
-    let may' : MayWrite c (λ k. ((after c steps).workers k).counter) w (StoreSecond j x) = subst (λ v. MayWrite c (λ k. ((after c steps).workers k).counter) v (StoreSecond j x)) (tables_of c steps) may.0 in
+    let may' : MayWrite c (λ k. ((after c steps).workers k).counter) w (StoreSecond j x) = subst (λ v. MayWrite c (λ k. ((after c steps).workers k).counter) v (StoreSecond j x)) (state_is c steps) may.0 in
     elim (cases_lt r.since (w.unlinked g)) [
       | inl lt ↦ absurd (held_not_filled c w k r.counter r.phase (ok.inside run) (w.groups g) (ok.grace run g lt) may'.3)
       | inr le ↦ le
@@ -244,7 +244,7 @@ worker_is c [] k = refl
 worker_is c (Writer s ∷ steps) k = worker_is c steps k
 worker_is c (ByWorker j s ∷ steps) k =
     let r = (after c steps).workers in
-    let clock : (after c steps).state.clock ≡ length (writes steps) = ap (λ t. t.clock) (tables_of c steps) ∙ clock_length c (writes steps) in
+    let clock : (after c steps).state.clock ≡ length (writes steps) = ap (λ t. t.clock) (state_is c steps) ∙ clock_length c (writes steps) in
     by_number (λ b. cond b (worker_by_step (after c steps).state.clock (r j) s) (r k) ≡ worker_by (cond b ((s, length (writes steps)) ∷ own_steps k steps) (own_steps k steps))) k j
     (λ h. ap (λ n. worker_by_step n (r j) s) clock ∙ ap (λ v. worker_by_step (length (writes steps)) v s) (ap r (sym h.1) ∙ worker_is c steps k))
     (λ h. worker_is c steps k)
@@ -286,7 +286,7 @@ placed_now c steps k s may =
     let w_steps = writes steps in
     let all : oldest (length w_steps) w_steps ≡ w_steps = oldest_all w_steps (length w_steps) (omega arith) in
     subst (λ (l : List WriterStep). MayRead c (state_after c l) (worker_by (own_steps k steps)) s) (sym all)
-    (subst (λ (z : TableState × Worker). MayRead c z.0 z.1 s) (λ i. (tables_of c steps i, worker_is c steps k i)) may)
+    (subst (λ (z : TableState × Worker). MayRead c z.0 z.1 s) (λ i. (state_is c steps i, worker_is c steps k i)) may)
 
 pub own_steps_are_placed : OwnStepsArePlaced
 own_steps_are_placed c [] k trace = tt

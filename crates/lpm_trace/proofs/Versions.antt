@@ -143,8 +143,8 @@ keeps_shows c counters w shows EndUpdate may =
     }
 keeps_shows c counters w shows s may = record { still = shows.still; shown = shows.shown }
 
-pub opening_shows : (c : InitialState) → IsSettled c → Shows c (initial_table_state c)
-opening_shows c settled = record { still = λ even a. refl; shown = settled.answers }
+pub initial_shows : (c : InitialState) → IsSettled c → Shows c (initial_table_state c)
+initial_shows c settled = record { still = λ even a. refl; shown = settled.answers }
 
 cond_ge : (b : Bool) (x y : ℕ) → x ≤ y → x ≤ cond b y x
 cond_ge true x y h = h

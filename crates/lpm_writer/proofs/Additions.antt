@@ -39,7 +39,7 @@ use Rattle.lpm_writer.specs.declared.pool.GroupPool.{GroupPool}
 use Rattle.lpm_writer.specs.Limbo.{IsQueued, tokens_of}
 use Rattle.lpm_writer.specs.GroupsMatch.{GroupsMatchSteps, OnlyChecks}
 use Rattle.lpm_writer.specs.GroupToFill.{group_to_fill, IsTakenBy}
-use Rattle.lpm_writer.specs.Take.{Finds, NeedsGroup}
+use Rattle.lpm_writer.specs.TakenGroup.{Finds, NeedsGroup}
 use Rattle.lpm_writer.specs.Rest.{Changes, IsResting, IsDue, state_of}
 use Rattle.lpm_writer.proofs.NextStores.{none_some}
 use Rattle.lpm_writer.proofs.StepsAlone.{StoresNothing}

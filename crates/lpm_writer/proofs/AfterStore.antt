@@ -36,7 +36,7 @@ use Rattle.lpm_trace.specs.Writer.{progress_after}
 use Rattle.lpm_trace.proofs.Versions.{with_at-same, with_at-other}
 use Rattle.lpm_writer.specs.declared.pool.GroupPool.{GroupPool}
 use Rattle.lpm_writer.specs.Limbo.{AreWaiting}
-use Rattle.lpm_writer.specs.GroupsMatch.{AreAfter, AreRising, AreRetired, AreBelow, IsAmong, GroupsMatchState, HasNothingDue, SameTables, GroupsMatchSteps}
+use Rattle.lpm_writer.specs.GroupsMatch.{AreAfter, AreRising, AreRetired, AreBelow, IsAmong, GroupsMatchState, HasNothingDue, SameState, GroupsMatchSteps}
 use Rattle.lpm_writer.specs.Steps.{since_opened}
 use Rattle.lpm_writer.specs.GroupToFill.{group_to_fill, unless_linked, IsTakenBy}
 use Rattle.lpm_writer.proofs.GivenUp.{HasUnlinked}
@@ -350,7 +350,7 @@ has_linked c steps states items passed (Unlink u) taken is k none keeps tied = s
 has_linked c steps states items passed (Flush u) taken is k none keeps tied = subst (HasLinkedOwn (state_after c steps)) (sym is) tt
 
 -- checks leave the update as it is
-pub making_quiet : (c : InitialState) (steps later : List WriterStep) (u : Plan) (t : Words) (v : Plan) → SameTables (state_after c steps) (state_after c later) → (progress_after c later).taken ≡ (progress_after c steps).taken
+pub making_quiet : (c : InitialState) (steps later : List WriterStep) (u : Plan) (t : Words) (v : Plan) → SameState (state_after c steps) (state_after c later) → (progress_after c later).taken ≡ (progress_after c steps).taken
     → StoresNothing steps later → IsMaking c steps u t v → IsMaking c later u t v
 making_quiet c steps later u t v q same nothing m = record {
   come = subst (HasCome c.first c.second u t v) (sym q.words) m.come;

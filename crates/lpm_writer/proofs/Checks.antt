@@ -79,10 +79,10 @@ module _ {M : Type 0} (did : M → InitialState → List WriterStep → Type 0) 
         λ more. rw add-one (next_load_may_come c so_far.0 token k counter may_load pass (omega (arith, more))),
       )
 
-pub quiet_same : (w : TableState) → SameTables w w
+pub quiet_same : (w : TableState) → SameState w w
 quiet_same w = record { words = refl; sequence = refl; history = refl; answer_changed = refl; groups = refl }
 
-pub quiet_on : (w y z : TableState) → SameTables w y → SameTables y z → SameTables w z
+pub quiet_on : (w y z : TableState) → SameState w y → SameState y z → SameState w z
 quiet_on w y z a b = record {
   words = b.words ∙ a.words;
   sequence = b.sequence ∙ a.sequence;
@@ -98,7 +98,7 @@ pub record IsLike (x z : WriterProgress) : Type 0 where
 
 -- what the loads of some workers' counters leave
 record Loaded (c : InitialState) (steps later : List WriterStep) : Type 0 where
-  quiet : SameTables (state_after c steps) (state_after c later)
+  quiet : SameState (state_after c steps) (state_after c later)
   token : (state_after c later).token ≡ (state_after c steps).token
   passed : (state_after c later).passed ≡ (state_after c steps).passed
   awaited : (progress_after c later).awaited ≡ (progress_after c steps).awaited
@@ -150,7 +150,7 @@ module _ {M : Type 0} (does : M → WriterStep → M → Type 0) (c : InitialSta
 
 -- what a check that has passed leaves
 pub record HasPassed (c : InitialState) (steps : List WriterStep) (t : ℕ) (later : List WriterStep) : Type 0 where
-  pub quiet : SameTables (state_after c steps) (state_after c later)
+  pub quiet : SameState (state_after c steps) (state_after c later)
   pub token : (state_after c later).token ≡ (state_after c steps).token
   pub more : (state_after c steps).passed ≤ (state_after c later).passed
   pub passed : 0 < c.workers → t ≤ (state_after c later).passed
@@ -161,7 +161,7 @@ pub record HasPassed (c : InitialState) (steps : List WriterStep) (t : ℕ) (lat
 
 -- what a check that a worker has stopped leaves
 pub record HasStopped (c : InitialState) (steps later : List WriterStep) : Type 0 where
-  pub quiet : SameTables (state_after c steps) (state_after c later)
+  pub quiet : SameState (state_after c steps) (state_after c later)
   pub token : (state_after c later).token ≡ (state_after c steps).token
   pub passed : (state_after c later).passed ≡ (state_after c steps).passed
   pub idle : HasNothingDue c steps → HasNothingDue c later
@@ -188,7 +188,7 @@ module _ {M : Type 0} (does : M → WriterStep → M → Type 0) (c : InitialSta
       let y = h.0 in
       let before = loaded does c n x t y (omega (arith, all)) h.2 in
       let end = last_passed does c n t h.1 y z all h.3 h.4 in
-      let quiet : SameTables (state_after c y.1) (state_after c z.1) = subst (λ steps. SameTables (state_after c y.1) (state_after c steps)) (sym h.4.1) (record { words = refl; sequence = refl; history = refl; answer_changed = refl; groups = refl }) in
+      let quiet : SameState (state_after c y.1) (state_after c z.1) = subst (λ steps. SameState (state_after c y.1) (state_after c steps)) (sym h.4.1) (record { words = refl; sequence = refl; history = refl; answer_changed = refl; groups = refl }) in
       let idle : HasNothingDue c z.1 = record { next_step = ap (λ (k : WriterProgress). k.next_step) end.1; awaited = ap (λ (k : WriterProgress). k.awaited) end.1 } in
       record {
         quiet = quiet_on (state_after c x.1) (state_after c y.1) (state_after c z.1) before.quiet quiet;
@@ -220,7 +220,7 @@ module _ {M : Type 0} (does : M → WriterStep → M → Type 0) (c : InitialSta
       let k : WriterProgress = progress_after c y.1 in
       let end : progress_after c z.1 ≡ progress_after_stop k k.awaited = subst (λ steps. progress_after c steps ≡ progress_after_stop k k.awaited) (sym h.5.1)
       (ap (λ b. cond b (cond (eqb (suc busy.worker) c.workers) (progress_after_pass k) (record k { next_step = Check t })) (progress_after_stop k k.awaited)) stop) in
-      let quiet : SameTables (state_after c y.1) (state_after c z.1) = subst (λ steps. SameTables (state_after c y.1) (state_after c steps)) (sym h.5.1) (record { words = refl; sequence = refl; history = refl; answer_changed = refl; groups = refl }) in
+      let quiet : SameState (state_after c y.1) (state_after c z.1) = subst (λ steps. SameState (state_after c y.1) (state_after c steps)) (sym h.5.1) (record { words = refl; sequence = refl; history = refl; answer_changed = refl; groups = refl }) in
       let over : HasNothingDue c x.1 → progress_after c z.1 ≡ record k { next_step = Nothing; reclaims = false } = λ i. end ∙ ap (progress_after_stop k) (before.awaited ∙ i.awaited) in
       record {
         quiet = quiet_on (state_after c x.1) (state_after c y.1) (state_after c z.1) before.quiet quiet;

@@ -9,7 +9,7 @@ use Rattle.lpm_trace.specs.States.{InitialState, state_after}
 use Rattle.lpm_trace.specs.Progress.{Bump}
 use Rattle.lpm_trace.specs.Writer.{progress_after}
 use Rattle.lpm_writer.specs.declared.pool.GroupPool.{GroupPool}
-use Rattle.lpm_writer.specs.GroupsMatch.{AreBelow, GroupsMatchState, HasNothingDue, Remembers, SameTables}
+use Rattle.lpm_writer.specs.GroupsMatch.{AreBelow, GroupsMatchState, HasNothingDue, Remembers, SameState}
 use Rattle.lpm_writer.specs.MemorySteps.{WithSteps, Goes, by_writer, state_of_traced}
 
 -- the update has just stored over the link of this group. The token is bumped next: from then on the
@@ -27,7 +27,7 @@ pub record HasUnlinked (c : InitialState) (steps : List WriterStep) (pool : Grou
 
 -- the token was bumped once, and checks were made at most
 pub record HasRetired (c : InitialState) (steps later : List WriterStep) : Type 0 where
-  pub quiet : SameTables (state_after c steps) (state_after c later)
+  pub quiet : SameState (state_after c steps) (state_after c later)
   pub token : (state_after c later).token ≡ suc (state_after c steps).token
   pub taken : (progress_after c later).taken ≡ (progress_after c steps).taken
   pub idle : HasNothingDue c later

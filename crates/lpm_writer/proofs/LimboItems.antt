@@ -8,7 +8,7 @@ use Rattle.lpm_groups.specs.States.{IsLeastFree, IsLinkedTo, IsLimboAt, IsFreeAt
 use Rattle.lpm_groups.proofs.Marks.{slice_get-set_other, slice_get-set_same, Releases-set, Retires-set, Takes-set, counts-total, count_by-some}
 use Rattle.lpm_update.specs.GroupStates.{SameLinksBut}
 use Rattle.lpm_writer.specs.Limbo.{IsFreed, AreWaiting, IsQueued, IsTaken, tokens_of}
-use Rattle.lpm_writer.specs.Take.{LinksLeast, MayTake}
+use Rattle.lpm_writer.specs.TakenGroup.{LinksLeast, MayTake}
 use Rattle.std.proofs.Math.ListN.{length-set}
 use Rattle.std.proofs.lemmas.Option.{same_Some, slice_get_within}
 use Rattle.defer_queue.specs.RetiredGroups.{IsAbsent}

@@ -25,9 +25,9 @@ use Rattle.lpm_trace.specs.Writer.{MayStep}
 use Rattle.lpm_writer.specs.declared.pool.GroupPool.{GroupPool}
 use Rattle.lpm_writer.specs.Limbo.{IsFreed, IsQueued, tokens_of}
 use Rattle.lpm_writer.specs.MemorySteps.{by_writer}
-use Rattle.lpm_writer.specs.GroupsMatch.{HasNothingDue, SameTables, OnlyChecks, GroupsMatchSteps}
+use Rattle.lpm_writer.specs.GroupsMatch.{HasNothingDue, SameState, OnlyChecks, GroupsMatchSteps}
 use Rattle.lpm_writer.specs.Steps.{StoresOnce}
-use Rattle.lpm_writer.specs.Take.{MayTake}
+use Rattle.lpm_writer.specs.TakenGroup.{MayTake}
 use Rattle.lpm_writer.specs.GroupToFill.{group_to_fill, unless_linked, IsTakenBy}
 use Rattle.lpm_writer.specs.Rest.{IsBetween, Changes, IsResting, IsDue, state_of}
 use Rattle.lpm_writer.proofs.UpdateRuns.{AsMemory, fit}
@@ -77,7 +77,7 @@ even_not n p q = omega (arith, p, q)
 pub between_take : (c : InitialState) (steps : List WriterStep) (pool : GroupPool) → IsBetween c steps → GroupsMatchSteps c steps pool.groups pool.queue.items pool.passed None → MayTake c steps pool
 between_take c steps pool between keeps = record { keeps = keeps; idle = between.idle; rests = even_not (state_after c steps).sequence between.even }
 
-between_quiet : (c : InitialState) (steps later : List WriterStep) → IsBetween c steps → SameTables (state_after c steps) (state_after c later) → HasNothingDue c later → StoresOnce later → IsBetween c later
+between_quiet : (c : InitialState) (steps later : List WriterStep) → IsBetween c steps → SameState (state_after c steps) (state_after c later) → HasNothingDue c later → StoresOnce later → IsBetween c later
 between_quiet c steps later between quiet idle once = record {
   idle = idle;
   even = ap (λ n. n % 2) quiet.sequence ∙ between.even;
@@ -85,13 +85,13 @@ between_quiet c steps later between quiet idle once = record {
   once = once;
 }
 
-version_quiet : (c : InitialState) (steps later : List WriterStep) (R : RuleMap) → (state_after c steps).history (updates_done_in (state_after c steps)) ≡ R → SameTables (state_after c steps) (state_after c later) → (state_after c later).history (updates_done_in (state_after c later)) ≡ R
+version_quiet : (c : InitialState) (steps later : List WriterStep) (R : RuleMap) → (state_after c steps).history (updates_done_in (state_after c steps)) ≡ R → SameState (state_after c steps) (state_after c later) → (state_after c later).history (updates_done_in (state_after c later)) ≡ R
 version_quiet c steps later R version quiet =
     ap (λ n. (state_after c later).history (done_at n)) quiet.sequence ∙ ap (λ h. h (updates_done_in (state_after c steps))) quiet.history ∙ version
 
 -- the token may be another
 pub rests_quiet : (f s : ℕ) (c : InitialState) (steps later : List WriterStep) (config : Config) (rules : RuleList) (pool new : GroupPool) (begun : ℕ) → IsResting f s c steps config rules pool begun
-    → SameTables (state_after c steps) (state_after c later) → HasNothingDue c later → StoresOnce later → GroupsMatchSteps c later new.groups new.queue.items new.passed None → IsTied f new.groups (group_at (state_after c steps).words.firsts)
+    → SameState (state_after c steps) (state_after c later) → HasNothingDue c later → StoresOnce later → GroupsMatchSteps c later new.groups new.queue.items new.passed None → IsTied f new.groups (group_at (state_after c steps).words.firsts)
     → IsQueued new.groups new.queue → length new.groups ≡ length pool.groups → IsResting f s c later config rules new begun
 rests_quiet f s c steps later config rules pool new begun rest q idle once keeps tied queued states =
     record {

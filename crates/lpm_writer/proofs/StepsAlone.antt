@@ -116,7 +116,7 @@ module _ {M : Type 0} (does : M → WriterStep → M → Type 0) (c : InitialSta
 
   pub after_check : (x : WithSteps M) (t : ℕ) (r : Result (Unit {0}) Busy) (z : WithSteps M) → Checks does c x t r z → StoresNothing x.1 z.1
   after_check x t r z (inl h) = stays x z h.2
-  after_check x t r z (inr h) = asks c.workers x t r z h.1
+  after_check x t r z (inr h) = until_stopped c.workers x t r z h.1
 
   front : (n : ℕ) (names : List ℕ) (x : WithSteps M) (left : List ℕ) (z : WithSteps M) → queue.FreesFront (Checks does c) (λ y name w. w ≡ y) n names x left z → StoresNothing x.1 z.1
   front zero names x left z h = stays x z h.1
@@ -236,7 +236,7 @@ module _ (M : Type 0) (does : M → WriterStep → M → Type 0) (c : InitialSta
 
     pub checks_fixed : (x z : WithSteps M) (token : ℕ) (r : Result (Unit {0}) Busy) → Checks does c x token r z → fixed z.0 ≡ fixed x.0
     checks_fixed x z token r (inl h) = same_fixed x z h.2
-    checks_fixed x z token r (inr h) = asks_fixed c.workers x z token r h.1
+    checks_fixed x z token r (inr h) = until_stopped_fixed c.workers x z token r h.1
 
     stores_fixed : (n : ℕ) (x z : WithSteps M) → Stores does c n x z → fixed z.0 ≡ fixed x.0
     stores_fixed zero x z h = same_fixed x z h

@@ -13,7 +13,7 @@ use Rattle.lpm_trace.specs.States.{InitialState}
 use Rattle.lpm_writer.specs.declared.pool.GroupPool.{GroupPool}
 use Rattle.lpm_writer.specs.Commands.{FreesBy}
 use Rattle.lpm_writer.specs.GroupsMatch.{GroupsMatchSteps, OnlyChecks}
-use Rattle.lpm_writer.specs.Take.{LinksLeast, MayTake, MayTakeAt, TakesAt, Takes, taken_by}
+use Rattle.lpm_writer.specs.TakenGroup.{LinksLeast, MayTake, MayTakeAt, TakesAt, Takes, taken_by}
 use Rattle.lpm_writer.specs.MemorySteps.{by_writer}
 use Rattle.lpm_writer.specs.Limbo.{AreWaiting, IsFreed, IsQueued, IsTaken, tokens_of}
 use Rattle.lpm_writer.proofs.LimboItems.{freed_within, taken_from, taken_queue, taken_after, freed_queue, still_free, least_linked, least_freed, least_same, reclaims_one, reclaims_none, no_tail, without_tail, may_reclaim}

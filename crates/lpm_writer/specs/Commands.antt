@@ -13,7 +13,7 @@ use Rattle.lpm_rules.specs.RuleMap.{RuleList}
 use Rattle.lpm_trace.specs.Progress.{Check, next_to_load}
 use Rattle.lpm_trace.specs.Writer.{progress_after}
 use Rattle.lpm_writer.specs.declared.pool.GroupPool.{GroupPool}
-use Rattle.lpm_writer.specs.GroupsMatch.{HasNothingDue, SameTables, GroupsMatchSteps, MayLoadCounters, MayReclaim, OnlyChecks, Remembers}
+use Rattle.lpm_writer.specs.GroupsMatch.{HasNothingDue, SameState, GroupsMatchSteps, MayLoadCounters, MayReclaim, OnlyChecks, Remembers}
 use Rattle.lpm_writer.specs.Steps.{StoresOnce}
 use Rattle.lpm_writer.specs.Limbo.{tokens_of}
 
@@ -52,7 +52,7 @@ pub record IsWaiting (first second : ℕ) (c : InitialState) (steps : List Write
     (rules : RuleList) (pool : GroupPool) (updates_begun : ℕ) : Type 0 where
   pub older : List WriterStep
   pub rested : IsResting first second c older config rules pool updates_begun
-  pub quiet : SameTables (state_after c older) (state_after c steps)
+  pub quiet : SameState (state_after c older) (state_after c steps)
   pub started : (state_after c steps).token ≡ suc (state_after c older).token
   pub passed : (state_after c steps).passed ≡ (state_after c older).passed
   pub unpassed : (state_after c steps).passed < (state_after c steps).token

@@ -83,7 +83,7 @@ abbrev pub Remembers : InitialState → List WriterStep → ℕ → Type 0
 Remembers c steps passed = 0 < c.workers → passed ≡ (state_after c steps).passed
 
 -- the words, the sequence, the versions and the groups are the same
-pub record SameTables (w z : TableState) : Type 0 where
+pub record SameState (w z : TableState) : Type 0 where
   pub words : z.words ≡ w.words
   pub sequence : z.sequence ≡ w.sequence
   pub history : z.history ≡ w.history
@@ -98,7 +98,7 @@ pub record GroupsMatchSteps (c : InitialState) (steps : List WriterStep) (states
 
 -- checks were made at most: the token and the group that is taken are the same too, and nothing is due
 pub record OnlyChecks (c : InitialState) (steps later : List WriterStep) : Type 0 where
-  pub quiet : SameTables (state_after c steps) (state_after c later)
+  pub quiet : SameState (state_after c steps) (state_after c later)
   pub token : (state_after c later).token ≡ (state_after c steps).token
   pub taken : (progress_after c later).taken ≡ (progress_after c steps).taken
   pub idle : HasNothingDue c later

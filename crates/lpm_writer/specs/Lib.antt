@@ -3,7 +3,7 @@ pub mod MemorySteps
 pub mod GroupsMatch
 pub mod Steps
 pub mod GroupToFill
-pub mod Take
+pub mod TakenGroup
 pub mod Commands
 pub mod Rest
 pub mod Plain

@@ -6,7 +6,7 @@ ghost use Rattle.fib_model.specs.State.{IsExhausted};
 ghost use Rattle.fib_model.specs.Outcomes.{Adds, Deletes, Flushes, Frees};
 ghost use Rattle.lpm_trace.specs.declared.step.WriterStep.{WriterStep};
 ghost use Rattle.lpm_trace.specs.States.{InitialState};
-ghost use Rattle.lpm_writer.specs.Take.{LinksLeast};
+ghost use Rattle.lpm_writer.specs.TakenGroup.{LinksLeast};
 ghost use Rattle.lpm_writer.specs.MemorySteps.{by_writer};
 ghost use Rattle.lpm_writer.specs.Rest.{state_of};
 ghost use Rattle.lpm_writer.specs.Commands.{Commands, MayCommand};

@@ -5,7 +5,7 @@ ghost use Rattle.fib_model.specs.State.{Reclaims};
 ghost use Rattle.lpm_writer.specs.Limbo.{AreWaiting, IsFreed, IsQueued, IsTaken};
 ghost use Rattle.lpm_writer.specs.MemorySteps.{by_writer};
 ghost use Rattle.lpm_writer.specs.Commands.{FreesBy, MayFree};
-ghost use Rattle.lpm_writer.specs.Take.{LinksLeast, MayTakeAt, Takes, TakesAt, taken_by};
+ghost use Rattle.lpm_writer.specs.TakenGroup.{LinksLeast, MayTakeAt, Takes, TakesAt, taken_by};
 
 use super::GroupPool;
 use super::grace::Reclaimer;

@@ -5,7 +5,7 @@ ghost use Rattle.lpm_cells.specs.Words.{IsWords};
 ghost use Rattle.lpm_update.specs.BlockGroups.{group_at};
 ghost use Rattle.lpm_writer.specs.Limbo.{IsQueued};
 ghost use Rattle.lpm_writer.specs.MemorySteps.{by_writer};
-ghost use Rattle.lpm_writer.specs.Take.{LinksLeast, MayTakeAt, TakesAt, Finds, found_by};
+ghost use Rattle.lpm_writer.specs.TakenGroup.{LinksLeast, MayTakeAt, TakesAt, Finds, found_by};
 
 use super::GroupPool;
 use super::limbo::take;

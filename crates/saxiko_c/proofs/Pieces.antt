@@ -6,7 +6,7 @@ use Rattle.std.proofs.Math.Nat.{min-eq_left}
 use Rattle.std.proofs.lemmas.List.{set-set, set-get_or, take_all}
 use Rattle.std.proofs.lemmas.Option.{unwrap_or-slice_get}
 use Rattle.shared_fib.specs.Passes.{PassState}
-use Rattle.saxiko_c.specs.RunningTable.{OwnerState}
+use Rattle.saxiko_c.specs.RunningTable.{StagedOwner}
 use Rattle.shared_fib.specs.Bursts.{LooksUpBurst}
 use Rattle.shared_fib.specs.RunningTable.{hop_or}
 
@@ -19,7 +19,7 @@ set_back {X} xs k x y e =
     set-set xs k x y ∙ subst (λ (z : X). set xs k z ≡ xs) same (set-get_or xs k y)
 
 -- the owner is as it was before
-pub as_before : (o p q : OwnerState) (k : ℕ) (reader given left : PassState) → given ≡ reader → reader.worker ≡ k
+pub as_before : (o p q : StagedOwner) (k : ℕ) (reader given left : PassState) → given ≡ reader → reader.worker ≡ k
     → reader.online ≡ false → slice_get o.bench k ≡ Some (Some reader) → p.bench ≡ set o.bench k None
     → p.writer ≡ o.writer → p.waits ≡ o.waits → q.bench ≡ set p.bench given.worker (Some left)
     → (given.online ≡ false → left ≡ given) → q.writer ≡ p.writer → q.waits ≡ p.waits → q ≡ o

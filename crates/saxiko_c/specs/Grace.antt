@@ -7,20 +7,20 @@ use Rattle.lpm_trace.specs.declared.step.WriterStep.TheVariants.{BumpToken}
 use Rattle.lpm_trace.specs.Laws.{IsChecked as WasChecked}
 use Rattle.lpm_writer.specs.Steps.{Checks}
 use Rattle.shared_fib.specs.RunningTable.{passed_of, steps_of, token_of}
-use Rattle.saxiko_c.specs.RunningTable.{OwnerState, Names}
+use Rattle.saxiko_c.specs.RunningTable.{StagedOwner, Names}
 use Rattle.saxiko_c.specs.Status.{success, again, already, not_permitted, overflow}
 use Rattle.saxiko_c.specs.declared.records.SaxikoHeld.{SaxikoHeld}
 
 -- ---- the other calls of the writer
 
 -- a call that may change the table; while a grace period lasts it is EAGAIN, and nothing changes
-abbrev pub AtRest : (OwnerState → ℤ → OwnerState → Type 0) → (unchanged : Type 0) → OwnerState → ℤ → OwnerState → Type 0
+abbrev pub AtRest : (StagedOwner → ℤ → StagedOwner → Type 0) → (unchanged : Type 0) → StagedOwner → ℤ → StagedOwner → Type 0
 AtRest call unchanged o status p =
     ((o.waits ≡ true) × (status ≡ again) × (p ≡ o) × unchanged)
     ⊎ ((o.waits ≡ false) × (p.waits ≡ false) × call o status p)
 
 -- a call that only asks; while a grace period lasts it is EAGAIN, and nothing is told
-abbrev pub AsksAtRest : (OwnerState → ℤ → Type 0) → (unchanged : Type 0) → OwnerState → ℤ → Type 0
+abbrev pub AsksAtRest : (StagedOwner → ℤ → Type 0) → (unchanged : Type 0) → StagedOwner → ℤ → Type 0
 AsksAtRest ask unchanged o status =
     ((o.waits ≡ true) × (status ≡ again) × unchanged)
     ⊎ ((o.waits ≡ false) × ask o status)
@@ -28,7 +28,7 @@ AsksAtRest ask unchanged o status =
 -- ---- its start
 
 -- one step was made, which starts a token
-pub record IsStarted (o p : OwnerState) : Type 0 where
+pub record IsStarted (o p : StagedOwner) : Type 0 where
   pub writer : p.writer ≡ record o.writer {
     table = record o.writer.table { readers = BumpToken ∷ steps_of o.writer };
   }
@@ -37,7 +37,7 @@ pub record IsStarted (o p : OwnerState) : Type 0 where
   pub bench : p.bench ≡ o.bench
 
 -- it is EALREADY where a grace period lasts, and EOVERFLOW where fewer tokens than groups are left
-abbrev pub Starts : OwnerState → ℤ → OwnerState → Type 0
+abbrev pub Starts : StagedOwner → ℤ → StagedOwner → Type 0
 Starts o status p =
     ((o.waits ≡ true) × (status ≡ already) × (p ≡ o))
     ⊎ (((o.waits ≡ false) × (2 ^ 62 < token_of o.writer + o.writer.config.groups)
@@ -67,7 +67,7 @@ pub record IsChecked (o : OwnerState) (r : Result (Unit {0}) Busy) (p : OwnerSta
   pub bench : p.bench ≡ o.bench
 
 -- it is EPERM where no grace period lasts
-abbrev pub ChecksOnce : SaxikoHeld → SaxikoHeld → OwnerState → ℤ → OwnerState → Type 0
+abbrev pub ChecksOnce : SaxikoHeld → SaxikoHeld → StagedOwner → ℤ → StagedOwner → Type 0
 ChecksOnce before after o status p =
     ((o.waits ≡ false) × (status ≡ not_permitted) × (after ≡ before) × (p ≡ o))
     ⊎ ((o.waits ≡ true) × (r : Result (Unit {0}) Busy) × IsChecked o r p

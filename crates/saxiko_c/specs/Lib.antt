@@ -1,5 +1,5 @@
 pub mod Grace
-pub mod Insert
+pub mod Insertions
 pub mod Loads
 pub mod OwnedTables
 pub mod RunningTable

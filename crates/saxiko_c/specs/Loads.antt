@@ -79,7 +79,7 @@ pub record IsOpenedWith (c : Config) (R : RuleMap) (o : OwnerState) : Type 0 whe
   pub groups_fit : groups_in_use 24 8 R ≤ c.groups
 
 -- a closed handle has a table with the rules of the routes then; an open one stays as it is
-abbrev pub LoadsRunning : Config → List SaxikoRoute → ℕ → ℕ → Option OwnerState → ℤ → Option OwnerState → Type 0
+abbrev pub LoadsRunning : Config → List SaxikoRoute → ℕ → ℕ → Option StagedOwner → ℤ → Option StagedOwner → Type 0
 LoadsRunning c routes before after =
     OpensIt (IsUnloaded c routes before after) (λ o. (after ≡ before) × IsOpenedWith c (rules_of_routes routes) o)
     (after ≡ before)

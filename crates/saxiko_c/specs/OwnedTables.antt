@@ -13,7 +13,7 @@ use Rattle.fib.specs.Fib.{FibState, coded_fib_state}
 use Rattle.fib.specs.contracts.fib.Fib as fib
 use Rattle.shared_fib.specs.Passes.{PassState, coded_pass}
 use Rattle.saxiko.specs.contracts.reader.Reader as reader
-use Rattle.saxiko_c.specs.RunningTable.{OwnerState, coded_owner}
+use Rattle.saxiko_c.specs.RunningTable.{StagedOwner, coded_owner}
 use Rattle.saxiko_c.specs.contracts.owner.Owner as owner
 
 abbrev pub table_row : RattleType
@@ -28,7 +28,7 @@ reader_row = reader.the_row
 abbrev pub coded_table_kept : Coded (Option FibState)
 coded_table_kept = coded_option coded_fib_state
 
-abbrev pub coded_writer_kept : Coded (Option OwnerState)
+abbrev pub coded_writer_kept : Coded (Option StagedOwner)
 coded_writer_kept = coded_option coded_owner
 
 abbrev pub coded_reader_kept : Coded (Option PassState)

@@ -29,12 +29,12 @@ use Rattle.fib_model.specs.Outcomes as outcomes
 -- The owner of a running table, as its callers see it (this project's).
 
 -- its writer, whether a grace period lasts, and the passes that no reader has, by their numbers
-pub record OwnerState : Type 0 where
+pub record StagedOwner : Type 0 where
   pub writer : WriterState
   pub waits : Bool
   pub bench : List (Option PassState)
 
-abbrev pub coded_owner : Coded OwnerState
+abbrev pub coded_owner : Coded StagedOwner
 coded_owner = code_by (WriterState × (Bool × List (Option PassState)))
     (coded× coded_writer (coded× coded_bool (coded_list (coded_option coded_pass))))
     (λ o. (o.writer, (o.waits, o.bench))) (λ p. record { writer = p.0; waits = p.1.0; bench = p.1.1 }) (λ _. refl)
@@ -57,7 +57,7 @@ Opens c = OpensIt (IsUnopened c) (IsOpened c) ⊤
 
 -- the table's rules alone were changed, by steps that come after the earlier ones, and each group that was
 -- freed was checked after it was given up
-pub record Changes (o p : OwnerState) : Type 0 where
+pub record Changes (o p : StagedOwner) : Type 0 where
   pub own : p.writer.identity ≡ o.writer.identity
   pub config : p.writer.config ≡ o.writer.config
   pub bench : p.bench ≡ o.bench
@@ -65,7 +65,7 @@ pub record Changes (o p : OwnerState) : Type 0 where
   pub checked : (freed : List ℕ)
       × FreesChecked o.writer.identity.initial o.writer.table p.writer.table freed
 
-abbrev pub AddsTo : ℕ → ℕ → ℕ → OwnerState → ℤ → OwnerState → Type 0
+abbrev pub AddsTo : ℕ → ℕ → ℕ → StagedOwner → ℤ → StagedOwner → Type 0
 AddsTo addr depth hop o status p =
     (IsBad depth hop × (status ≡ invalid) × (p ≡ o))
     ⊎ ((depth ≤ 32) × (hop < 16777216) × (r : Result Put Refusal)
@@ -74,7 +74,7 @@ AddsTo addr depth hop o status p =
     × TakesLeast o.writer.identity.initial o.writer.table p.writer.table
     × Changes o p × (status ≡ add_status r))
 
-abbrev pub DeletesFrom : ℕ → ℕ → ℕ → ℕ → OwnerState → ℤ → OwnerState → Type 0
+abbrev pub DeletesFrom : ℕ → ℕ → ℕ → ℕ → StagedOwner → ℤ → StagedOwner → Type 0
 DeletesFrom addr depth before after o status p =
     ((32 < depth) × (status ≡ invalid) × (after ≡ before) × (p ≡ o))
     ⊎ ((depth ≤ 32) × (r : Result ℕ Refusal)
@@ -82,7 +82,7 @@ DeletesFrom addr depth before after o status p =
     (prefix_of 32 depth addr) r p.writer.table
     × Stores r before after × Changes o p × (status ≡ status_of r))
 
-abbrev pub Flushes : ℕ → ℕ → OwnerState → ℤ → OwnerState → Type 0
+abbrev pub Flushes : ℕ → ℕ → StagedOwner → ℤ → StagedOwner → Type 0
 Flushes before after o status p = (r : Result ℕ Refusal)
     × outcomes.Flushes (by_steps o.writer.identity.initial) 24 8 o.writer.config o.writer.table r p.writer.table
     × Stores r before after × Changes o p × (status ≡ status_of r)
@@ -93,7 +93,7 @@ Names None before status after = (status ≡ success) × (after ≡ before)
 Names (Some busy) before status after =
     (status ≡ pos 1) × (after ≡ record { reader = busy.worker; counter = busy.counter })
 
-abbrev pub FreesHeld : ℕ → ℕ → SaxikoHeld → SaxikoHeld → OwnerState → ℤ → OwnerState → Type 0
+abbrev pub FreesHeld : ℕ → ℕ → SaxikoHeld → SaxikoHeld → StagedOwner → ℤ → StagedOwner → Type 0
 FreesHeld max freed before after o status p = (r : Reclaimed)
     × outcomes.Frees (by_steps o.writer.identity.initial) o.writer.table max r p.writer.table
     × FreesChecked o.writer.identity.initial o.writer.table p.writer.table (take r.freed o.writer.table.limbo)
@@ -123,7 +123,7 @@ Counts c o status = (status ≡ success) × IsCountedIn o.writer c × IsAtRest o
 -- ---- readers
 
 -- the reader of this number was at the bench, and is handed out
-pub record IsRegistered (number : ℕ) (o : OwnerState) (reader : PassState) (p : OwnerState) : Type 0 where
+pub record IsRegistered (number : ℕ) (o : StagedOwner) (reader : PassState) (p : StagedOwner) : Type 0 where
   pub of : IsPassOf o.writer.identity number reader
   pub was : slice_get o.bench number ≡ Some (Some reader)
   pub handed : p.bench ≡ slice_set o.bench number None
@@ -131,14 +131,14 @@ pub record IsRegistered (number : ℕ) (o : OwnerState) (reader : PassState) (p 
   pub stage : p.waits ≡ o.waits
 
 -- no reader was handed out: EINVAL only where there is no such number, EBUSY only where it has a reader, or ENOMEM
-abbrev pub IsUnregistered : ℕ → OwnerState → ℤ → OwnerState → Type 0
+abbrev pub IsUnregistered : ℕ → StagedOwner → ℤ → StagedOwner → Type 0
 IsUnregistered number o status p = (p ≡ o)
     × (((status ≡ invalid) × (o.writer.identity.initial.workers ≤ number))
     ⊎ (((status ≡ busy) × (slice_get o.bench number ≡ Some None))
     ⊎ (status ≡ no_memory)))
 
 -- a closed handle has the reader then
-abbrev pub Registers : ℕ → Option OwnerState → Option PassState → ℤ → Option OwnerState → Option PassState → Type 0
+abbrev pub Registers : ℕ → Option StagedOwner → Option PassState → ℤ → Option StagedOwner → Option PassState → Type 0
 Registers number None kept status p reader = (status ≡ invalid) × (p ≡ None) × (reader ≡ kept)
 Registers number (Some o) (Some kept) status p reader =
     (status ≡ busy) × (p ≡ Some o) × (reader ≡ Some kept)
@@ -148,7 +148,7 @@ Registers number (Some o) None status (Some p) (Some reader) =
     (status ≡ success) × IsRegistered number o reader p
 
 -- the reader is at the bench then, and those at the bench are offline
-abbrev pub GivesBack : PassState → OwnerState → ℤ → OwnerState → Type 0
+abbrev pub GivesBack : PassState → StagedOwner → ℤ → StagedOwner → Type 0
 GivesBack reader o status p = (status ≡ success) × (left : PassState)
     × (p.bench ≡ slice_set o.bench reader.worker (Some left))
     × (reader.online ≡ true → (place : ℕ) × Makes ((StoreOffline, place) ∷ []) reader left)
@@ -157,14 +157,14 @@ GivesBack reader o status p = (status ≡ success) × (left : PassState)
     × (p.writer ≡ o.writer)
     × (p.waits ≡ o.waits)
 
-abbrev pub Unregisters : Option OwnerState → Option PassState → ℤ → Option OwnerState → Option PassState → Type 0
+abbrev pub Unregisters : Option StagedOwner → Option PassState → ℤ → Option StagedOwner → Option PassState → Type 0
 Unregisters None kept status p reader = (status ≡ invalid) × (p ≡ None) × (reader ≡ kept)
 Unregisters (Some o) None status p reader = (status ≡ invalid) × (p ≡ Some o) × (reader ≡ None)
 Unregisters (Some o) (Some kept) status None reader = ⊥
 Unregisters (Some o) (Some kept) status (Some p) reader = (reader ≡ None) × GivesBack kept o status p
 
 -- both handles are of one table, where both are open
-abbrev pub AreOfOneTable : Option OwnerState → Option PassState → Type 0
+abbrev pub AreOfOneTable : Option StagedOwner → Option PassState → Type 0
 AreOfOneTable (Some o) (Some reader) = reader.table ≡ o.writer.identity
 AreOfOneTable None reader = ⊤
 AreOfOneTable (Some o) None = ⊤

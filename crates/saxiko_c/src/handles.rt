@@ -3,7 +3,7 @@
 ghost use Rattle.std.specs.Prelude.{◌≡◌, Option, Some};
 ghost use Rattle.fib.specs.Fib.{FibState};
 ghost use Rattle.shared_fib.specs.Passes.{PassState};
-ghost use Rattle.saxiko_c.specs.RunningTable.{OwnerState};
+ghost use Rattle.saxiko_c.specs.RunningTable.{StagedOwner};
 ghost use Rattle.saxiko_c.specs.OwnedTables.{coded_reader_kept, coded_table_kept, coded_writer_kept, handle_owns, reader_row, table_row, writer_row};
 
 use crate::handle::Handle;
@@ -83,7 +83,7 @@ pub struct SaxikoWriter {
     at: *mut u8,
     is_open: bool,
     alloc: Global,
-    pub ghost kept: { Option OwnerState } by { coded_writer_kept },
+    pub ghost kept: { Option StagedOwner } by { coded_writer_kept },
 }
 
 impl Model for SaxikoWriter {

@@ -9,8 +9,8 @@ mod grace;
 mod grace_calls;
 mod handle;
 mod handles;
-mod insert;
-mod insert_calls;
+mod insertion_calls;
+mod insertions;
 mod load;
 mod loose;
 mod matches;
@@ -28,7 +28,7 @@ mod walk_calls;
 
 pub use grace_calls::{saxiko_proved_writer_check, saxiko_proved_writer_start};
 pub use handles::{SaxikoReader, SaxikoTable, SaxikoWriter};
-pub use insert_calls::{saxiko_proved_table_insert, saxiko_proved_writer_insert};
+pub use insertion_calls::{saxiko_proved_table_insert, saxiko_proved_writer_insert};
 pub use matches_calls::{saxiko_proved_table_lookup_rule, saxiko_proved_writer_lookup_rule};
 pub use records::{SaxikoConfig, SaxikoCounts, SaxikoHeld, SaxikoRoute, SaxikoSpan};
 pub use running_table_calls::{

@@ -18,10 +18,10 @@ pub struct Owner {
 }
 
 impl Model for Owner {
-    ghost use Rattle.saxiko_c.specs.RunningTable.{OwnerState, coded_owner};
+    ghost use Rattle.saxiko_c.specs.RunningTable.{StagedOwner, coded_owner};
     ghost use Rattle.saxiko_c.specs.Stages.{IsSettled, owned_in, waits_in};
 
-    ghost Value = { OwnerState };
+    ghost Value = { StagedOwner };
 
     ghost coded = { coded_owner };
 

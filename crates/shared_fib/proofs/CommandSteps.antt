@@ -28,7 +28,7 @@ use Rattle.lpm_trace.specs.States.{InitialState}
 use Rattle.lpm_writer.specs.declared.control.ControlState.{ControlState}
 use Rattle.lpm_writer.specs.Rest.{IsResting, state_of}
 use Rattle.lpm_writer.specs.Commands.{Commands, Rests}
-use Rattle.lpm_writer.specs.Take.{LinksLeast}
+use Rattle.lpm_writer.specs.TakenGroup.{LinksLeast}
 use Rattle.lpm_writer.specs.MemorySteps.{WithSteps, by_writer}
 use Rattle.lpm_writer.proofs.StepsAlone.{adds_alone, deletes_alone, flushes_alone, frees_alone}
 use Rattle.shared_words.specs.Layout.{InitialData, initial_state_of}
@@ -38,7 +38,7 @@ use Rattle.shared_fib.specs.RunningTable.{Identity, IsSoundWriter, WriterState, 
 use Rattle.shared_fib.specs.FreedGroups.{FreesChecked, TakesLeast}
 use Rattle.shared_fib.proofs.TokenChecks.{frees_checked}
 use Rattle.shared_fib.proofs.FreedGroups.{Leaves, adds_leave, deletes_leave, flushes_leave, reclaims_leave}
-use Rattle.shared_fib.proofs.SeatMemory.{Kept, kept, unseeing, does_in, stays, rests_after}
+use Rattle.shared_fib.proofs.SeatMemory.{FixedPart, fixed_part, unseeing, does_in, stays, rests_after}
 use Rattle.shared_fib.proofs.LeastGroup.{takes_least}
 use Rattle.defer_queue.specs.Reclaims as queue
 
@@ -62,7 +62,7 @@ asks workers x token (Err busy) z h =
 checks : (workers : ℕ) (x : List WriterStep) (token : ℕ) (r : Result (Unit {0}) Busy) (z : List WriterStep)
     → Checks workers x token r z → IsLater x z
 checks workers x token r z (inl h) = later_same x z h.2
-checks workers x token r z (inr h) = asks workers x token r z h.1
+checks workers x token r z (inr h) = until_stopped workers x token r z h.1
 
 -- each part of a change goes on from the steps before it
 pub record GoOn (t : Transitions (List WriterStep)) : Type 0 where
@@ -244,10 +244,10 @@ module _ (f s : ℕ) (old new : ControlState f s) (v : View) (m z : LentSeat) (f
     abbrev after_traced : List WriterStep → State (WithSteps LentSeat)
     after_traced later = state_of new.rules.rules (z, later) new.pool new.versions
 
-    abbrev same : Kept
+    abbrev same : FixedPart
     same = (m.name, (t, unseeing v))
 
-    same_at_first : kept m ≡ same
+    same_at_first : fixed_part m ≡ same
     same_at_first = λ i. (m.name, (at i, unseeing (knew i)))
 
     -- by these later steps
@@ -259,7 +259,7 @@ module _ (f s : ℕ) (old new : ControlState f s) (v : View) (m z : LentSeat) (f
         table = state_of new.rules.rules later new.pool new.versions;
       }
 
-      then_is : kept z ≡ same → then ≡ writer_by z.table new z.view
+      then_is : fixed_part z ≡ same → then ≡ writer_by z.table new z.view
       then_is is = λ i. record {
         identity = record { words = (sym is i).1.0; initial = (sym is i).1.1.initial };
         config = new.config;
@@ -267,10 +267,10 @@ module _ (f s : ℕ) (old new : ControlState f s) (v : View) (m z : LentSeat) (f
       }
 
       came : (K : InitialData → WriterState → WriterState → Type 0) (freed : WriterState → List ℕ) (started : ℕ)
-          → K v.initial before then → kept z ≡ same → IsLater v.writer_steps later
+          → K v.initial before then → fixed_part z ≡ same → IsLater v.writer_steps later
           → Leaves c v.writer_steps later before.table.limbo started (freed before) then.table.limbo → Came K freed
       came K freed started outcome stay goes_on leaves = record {
-        name = ap (λ (k : Kept). k.0) stay;
+        name = ap (λ (k : FixedPart). k.0) stay;
         at_seat = λ t' w there knows.
             let ready : IsSoundWriter f s new z.view = record {
               rests = rests_after (λ by later. IsResting f s by later new.config new.rules new.pool new.versions) z c later did
@@ -302,7 +302,7 @@ module _ (f s : ℕ) (old new : ControlState f s) (v : View) (m z : LentSeat) (f
     added p hop r told links =
         let h = told c v.writer_steps first rested in
         let z_table = (then h.0 h.1 h.2).table in
-        let alone = adds_alone LentSeat does_in c Kept kept stays same f s old.config before_traced
+        let alone = adds_alone LentSeat does_in c FixedPart fixed_part stays same f s old.config before_traced
         (after_traced h.0) same_at_first p hop r h.3 in
         let left = adds_leave c f s old.config before.table p hop r z_table alone.0 in
         let least = takes_least f s v.initial v.writer_steps h.0 old.config new.config old.rules new.rules old.pool new.pool
@@ -319,7 +319,7 @@ module _ (f s : ℕ) (old new : ControlState f s) (v : View) (m z : LentSeat) (f
     deleted p r told =
         let h = told c v.writer_steps first rested in
         let z_table = (then h.0 h.1 h.2).table in
-        let alone = deletes_alone LentSeat does_in c Kept kept stays same f s old.config before_traced
+        let alone = deletes_alone LentSeat does_in c FixedPart fixed_part stays same f s old.config before_traced
         (after_traced h.0) same_at_first p r h.3 in
         let left = deletes_leave c f s old.config before.table p r z_table alone.0 in (
           left.1,
@@ -334,7 +334,7 @@ module _ (f s : ℕ) (old new : ControlState f s) (v : View) (m z : LentSeat) (f
     flushed r told =
         let h = told c v.writer_steps first rested in
         let z_table = (then h.0 h.1 h.2).table in
-        let alone = flushes_alone LentSeat does_in c Kept kept stays same f s old.config before_traced
+        let alone = flushes_alone LentSeat does_in c FixedPart fixed_part stays same f s old.config before_traced
         (after_traced h.0) same_at_first r h.3 in
         let left = flushes_leave c f s old.config before.table r z_table alone.0 in (
           left.1,
@@ -349,7 +349,7 @@ module _ (f s : ℕ) (old new : ControlState f s) (v : View) (m z : LentSeat) (f
     freed max r told =
         let h = told c v.writer_steps first rested in
         let z_table = (then h.0 h.1 h.2).table in
-        let alone = frees_alone LentSeat does_in c Kept kept stays same f s old.config before_traced
+        let alone = frees_alone LentSeat does_in c FixedPart fixed_part stays same f s old.config before_traced
         (after_traced h.0) same_at_first max r h.3 in
         came h.0 h.1 h.2 _ (λ x. take r.freed x.table.limbo) 0 alone.0 alone.1
         (frees_later _ (steps_go_on c.workers c.token) before.table z_table max r alone.0)

@@ -25,7 +25,7 @@ use Rattle.lpm_trace.proofs.Versions.{with_at_case, token_is, first_word_is, fir
 use Rattle.lpm_writer.specs.declared.pool.GroupPool.{GroupPool}
 use Rattle.lpm_writer.specs.Limbo.{AreWaiting, tokens_of}
 use Rattle.lpm_writer.specs.GroupsMatch.{AreRetired}
-use Rattle.lpm_writer.specs.Take.{HasNoneFreeBelow, LinksLeast}
+use Rattle.lpm_writer.specs.TakenGroup.{HasNoneFreeBelow, LinksLeast}
 use Rattle.lpm_writer.specs.Rest.{IsResting, state_of}
 use Rattle.lpm_writer.proofs.LimboItems.{waiting_set, is_freed}
 use Rattle.shared_words.specs.Layout.{InitialData, initial_state_of}

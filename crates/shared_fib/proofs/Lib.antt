@@ -10,7 +10,7 @@ pub mod SweepWords
 pub mod SeatMemory
 pub mod Backwards
 pub mod Since
-pub mod Begins
+pub mod Openings
 pub mod PackedWords
 pub mod Lookups
 pub mod Seats

@@ -20,7 +20,7 @@ use Rattle.shared_words.specs.Deeds.{AddressLookup, IsReadOn, firsts_at, loads_a
 use Rattle.shared_words.proofs.Deeds.{all_at, gains_on, goes_at, goes_on, later_trans, later_longer}
 use Rattle.shared_fib.specs.Versions.{updates_begun, updates_done}
 use Rattle.shared_fib.specs.Passes.{PassState, Makes, IsAnswered, IsHopOfVersion, LooksUp, LooksUpAll}
-use Rattle.shared_fib.proofs.Versions.{beginning_of, counts, written_then, kept}
+use Rattle.shared_fib.proofs.Versions.{beginning_of, counts, written_then, history_has_rules}
 
 -- what a view gains by these steps
 pub record Made (made : List (WorkerStep × ℕ)) (v w : View) : Type 0 where
@@ -125,7 +125,7 @@ of_version table o w_steps l written h =
     (versions_never_fall_at_places c w_steps l.addr (length w_steps) (length w_steps) (omega arith)).1 in
     record {
       rules = (state_after c w_steps).history (version (state_at c w_steps place) l.addr);
-      version = (kept c w_steps written).each (version (state_at c w_steps place) l.addr) (omega (arith, rises.2, last));
+      version = (history_has_rules c w_steps written).each (version (state_at c w_steps place) l.addr) (omega (arith, rises.2, last));
       within = omega (arith, h.to, h.within);
       done = omega (arith, stands.0, then.done_is);
       begun = omega (arith, stands.1, then.begun_is);

@@ -110,18 +110,18 @@ abbrev pub unseeing : View → View
 unseeing v = record v { writer_steps = [] }
 
 -- what no step changes
-abbrev pub Kept : Type 0
-Kept = ℕ × (TableId × View)
+abbrev pub FixedPart : Type 0
+FixedPart = ℕ × (TableId × View)
 
-abbrev pub kept : LentSeat → Kept
-kept m = (m.name, (m.table, unseeing m.view))
+abbrev pub fixed_part : LentSeat → FixedPart
+fixed_part m = (m.name, (m.table, unseeing m.view))
 
-pub stays : (m : LentSeat) (s : WriterStep) (z : LentSeat) → does_in m s z → kept z ≡ kept m
+pub stays : (m : LentSeat) (s : WriterStep) (z : LentSeat) → does_in m s z → fixed_part z ≡ fixed_part m
 stays m s z does = λ i. (does.name i, (does.table i, ap unseeing does.view i))
 
 -- the memory's steps are these, and it has kept the rest
-pub only_sees : (m z : LentSeat) → kept z ≡ kept m → OnlySees m.view z.view
-only_sees m z same = ap (λ (k : Kept). record k.1.1 { writer_steps = z.view.writer_steps }) same
+pub only_sees : (m z : LentSeat) → fixed_part z ≡ fixed_part m → OnlySees m.view z.view
+only_sees m z same = ap (λ (k : FixedPart). record k.1.1 { writer_steps = z.view.writer_steps }) same
 
 -- where a control state rests by the steps of the memory, it does by what the memory knows
 pub rests_after : (K : InitialState → List WriterStep → Type 0) (z : LentSeat) (c : InitialState) (later : List WriterStep)

@@ -16,7 +16,7 @@ use Rattle.shared_words.specs.Layout.{pairs, pair_at, packed_words}
 use Rattle.shared_words.proofs.WordPlaces.{packed_at, packed_length}
 use Rattle.shared_fib.specs.declared.initial_table.InitialTable.{InitialTable}
 use Rattle.shared_fib.specs.LoadedTable.{IsLoaded, AreSwept}
-use Rattle.shared_fib.proofs.Begins.{loaded_packed, loaded_is}
+use Rattle.shared_fib.proofs.Openings.{loaded_packed, loaded_is}
 
 -- ---- how many words there may be
 
@@ -101,28 +101,28 @@ laid_out F S W Z count d token second workers put filled rest all fits =
 
 module _ (f s : ℕ) (config : Config) (R : RuleMap) (words blocks : List ℕ) (shape : IsShape f s) (limits : IsConfig config)
     (swept : AreSwept f s config R words blocks) where
-  abbrev pub kept : ControlState f s
-  kept = control f s config R 0 blocks swept.firsts swept.seconds
+  abbrev pub swept_control : ControlState f s
+  swept_control = control f s config R 0 blocks swept.firsts swept.seconds
 
-  abbrev pub held : PlainMemory f s
-  held = memory f s config R 0 blocks swept.firsts swept.seconds
+  abbrev pub swept_memory : PlainMemory f s
+  swept_memory = memory f s config R 0 blocks swept.firsts swept.seconds
 
-  sound : IsSound f s kept held
+  sound : IsSound f s swept_control swept_memory
   sound = sound_swept f s config R 0 blocks swept.firsts swept.seconds shape limits swept.represents swept.numbered
-      swept.room swept.few (omega arith) kept held refl refl refl refl
+      swept.room swept.few (omega arith) swept_control swept_memory refl refl refl refl
 
-  long : length held.cells.seconds ≡ config.groups * 2 ^ s
+  long : length swept_memory.cells.seconds ≡ config.groups * 2 ^ s
   long =
       let m : ℕ = config.groups * 2 ^ s - length swept.seconds in
       let fits = fewer_words (length blocks) config.groups (2 ^ s) swept.few in
       omega (arith, length-append swept.seconds (replicate m 0), length-replicate {A = ℕ} m 0, fits, swept.room)
 
-  pub swept_loaded : (l : InitialTable f s) (queue : Queue) (z : ControlState f s) → z ≡ kept → l.words.items ≡ words
+  pub swept_loaded : (l : InitialTable f s) (queue : Queue) (z : ControlState f s) → z ≡ swept_control → l.words.items ≡ words
       → l.layout.firsts ≡ 2 ^ f → l.layout.seconds ≡ config.groups * 2 ^ s → l.layout.workers ≡ config.workers
       → l.rules ≡ z.rules → l.groups ≡ z.pool.groups → queue ≡ z.pool.queue → IsLoaded f s config queue l
   swept_loaded l queue z is same firsts seconds workers rules groups waits =
-      loaded_is f s kept held sound refl config queue l refl (waits ∙ ap (λ (y : ControlState f s). y.pool.queue) is)
+      loaded_is f s swept_control swept_memory sound refl config queue l refl (waits ∙ ap (λ (y : ControlState f s). y.pool.queue) is)
       (rules ∙ ap (λ (y : ControlState f s). y.rules) is) (groups ∙ ap (λ (y : ControlState f s). y.pool.groups) is)
       (omega (arith, limits.first_token.0)) limits.first_token.1
-      (loaded_packed f s kept held l config.first_token refl (same ∙ swept.laid)
+      (loaded_packed f s swept_control swept_memory l config.first_token refl (same ∙ swept.laid)
       (firsts ∙ sym swept.represents.table.words.firsts_len) (seconds ∙ sym long) workers)

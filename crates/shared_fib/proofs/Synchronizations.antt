@@ -23,13 +23,13 @@ use Rattle.shared_words.specs.Layout.{initial_state_of}
 use Rattle.shared_fib.specs.LentSeats.{LentSeat, SharedDid, SharedDoes, state_of_lent}
 use Rattle.shared_fib.specs.LentLaws.{shared_shows}
 use Rattle.shared_fib.specs.Grace.{PassesAtLast}
-use Rattle.shared_fib.proofs.SeatMemory.{Kept, kept, does_in, stays}
+use Rattle.shared_fib.proofs.SeatMemory.{FixedPart, fixed_part, does_in, stays}
 
 -- the newest token was started last in m, and each check of it since was stopped
 pub record HasWaited (m z : LentSeat) : Type 0 where
   pub stops : ℕ
   pub did : SharedDid z (initial_state_of m.view.initial) z.view.writer_steps
-  pub same : kept z ≡ kept m
+  pub same : fixed_part z ≡ fixed_part m
   pub stopped : AreStopped m.view.initial.workers stops m.view.writer_steps (state_of_lent m).token z.view.writer_steps
 
 module _ (m : LentSeat) where
@@ -55,9 +55,9 @@ module _ (m : LentSeat) where
         (subst (λ l. by_steps.Checks c.workers y.view.writer_steps (state_of_lent y).token r l)
         did.steps_are (checks_alone LentSeat does_in c (y, y.view.writer_steps) (z, later) (state_of_lent y).token r checks))
 
-    pub still : (r : Result (Unit {0}) Busy) → IsChecked r → kept z ≡ kept m
+    pub still : (r : Result (Unit {0}) Busy) → IsChecked r → fixed_part z ≡ fixed_part m
     still r checks =
-        checks_fixed LentSeat does_in c Kept kept stays (y, y.view.writer_steps) (z, later) (state_of_lent y).token r checks
+        checks_fixed LentSeat does_in c FixedPart fixed_part stays (y, y.view.writer_steps) (z, later) (state_of_lent y).token r checks
         ∙ so_far.same
 
     pub once_more : (busy : Busy) → IsChecked (Err busy) → HasWaited m z

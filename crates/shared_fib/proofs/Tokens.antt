@@ -20,13 +20,13 @@ use Rattle.shared_words.specs.Seats.{AreLawful, state_of_view, with_step}
 use Rattle.shared_fib.specs.Grace.{IsInGrace}
 use Rattle.shared_fib.specs.LentSeats.{LentSeat, SharedDid, passed_by, state_of_lent, token_by}
 use Rattle.shared_fib.specs.RunningTable.{IsSoundWriter, OnlySees}
-use Rattle.shared_fib.proofs.SeatMemory.{either, on_err_then, on_ok_both, on_ok_then, seat_passed, seat_token_stays, Kept, kept, does_in, stays, only_sees, outcome_after, rests_after}
+use Rattle.shared_fib.proofs.SeatMemory.{either, on_err_then, on_ok_both, on_ok_then, seat_passed, seat_token_stays, FixedPart, fixed_part, does_in, stays, only_sees, outcome_after, rests_after}
 use Rattle.shared_fib.proofs.Synchronizations.{exhausted_by, queued_passed}
 
 pub kept_by_check : (o : InitialData) (m z : LentSeat) (steps later : List WriterStep) (token : ℕ) (r : Result (Unit {0}) Busy)
-    → traced.Checks does_in (initial_state_of o) (m, steps) token r (z, later) → kept z ≡ kept m
+    → traced.Checks does_in (initial_state_of o) (m, steps) token r (z, later) → fixed_part z ≡ fixed_part m
 kept_by_check o m z steps later token r =
-    checks_fixed LentSeat does_in (initial_state_of o) Kept kept stays (m, steps) (z, later) token r
+    checks_fixed LentSeat does_in (initial_state_of o) FixedPart fixed_part stays (m, steps) (z, later) token r
 
 -- The seat, which knew v, was lent to the memory m. From the control state `old` and m the call has led to `new` and z, and
 -- the seat knows w then.
@@ -81,7 +81,7 @@ module _ (f s : ℕ) (old new : ControlState f s) (v w : View) (m z : LentSeat) 
     pub table : z.table ≡ m.table
     pub view : OnlySees v x
 
-  pub checks_once : (r : Result (Unit {0}) Busy) → kept z ≡ kept m → 0 < token_by v → AreLawful z.view.initial z.view.writer_steps
+  pub checks_once : (r : Result (Unit {0}) Busy) → fixed_part z ≡ fixed_part m → 0 < token_by v → AreLawful z.view.initial z.view.writer_steps
       → (later : List WriterStep) × SharedDid z c later
       × traced.Checks does_in c (m, v.writer_steps) (state_of_lent m).token r (z, later)
       × OnOk r (RestsNow c later) × OnErr r (Waits c later)
@@ -106,6 +106,6 @@ module _ (f s : ℕ) (old new : ControlState f s) (v w : View) (m z : LentSeat) 
             (subst (λ (l : ControlState f s). 0 < l.config.workers) (sym same) some));
         ready = on_ok_then r rests (λ rest. record { rests = rest; token = low });
         waits = on_err_then r came.4 (in_grace came.0 came.1);
-        table = ap (λ (k : Kept). k.1.0) still;
+        table = ap (λ (k : FixedPart). k.1.0) still;
         view = sees;
       })

@@ -47,17 +47,17 @@ more initial s steps k rules v = record {
 }
 
 -- the history has the rules of each version that was begun, and of the last one those after all
-pub record Kept (c : InitialState) (steps : List WriterStep) : Type 0 where
+pub record HistoryHasRules (c : InitialState) (steps : List WriterStep) : Type 0 where
   pub last : (state_after c steps).history (updates_begun_in (state_after c steps)) ≡ rules_after c.rules steps
   pub each : (k : ℕ) → k ≤ updates_begun_in (state_after c steps) → IsVersion c.rules steps k ((state_after c steps).history k)
 
-pub kept : (c : InitialState) (steps : List WriterStep) → IsWritten c steps → Kept c steps
-kept c [] h = record {
+pub history_has_rules : (c : InitialState) (steps : List WriterStep) → IsWritten c steps → HistoryHasRules c steps
+history_has_rules c [] h = record {
   last = refl;
   each = λ k low. record { newer = []; older = []; split = refl; count = omega (arith, low); rules_are = refl };
 }
-kept c (EndUpdate ∷ steps) h =
-    let k = kept c steps h.1 in
+history_has_rules c (EndUpdate ∷ steps) h =
+    let k = history_has_rules c steps h.1 in
     let w : TableState = state_after c steps in
     let odd = h.0.0.0 in
     let same : updates_begun_in (state_after c (EndUpdate ∷ steps)) ≡ updates_begun_in w = omega (arith, odd) in
@@ -65,8 +65,8 @@ kept c (EndUpdate ∷ steps) h =
       last = ap w.history same ∙ k.last;
       each = λ n low. more c.rules EndUpdate steps n _ (k.each n (omega (arith, low, same)));
     }
-kept c (BeginUpdate change ∷ steps) h =
-    let k = kept c steps h.1 in
+history_has_rules c (BeginUpdate change ∷ steps) h =
+    let k = history_has_rules c steps h.1 in
     let w : TableState = state_after c steps in
     let even = h.0.0.0 in
     let z : TableState = state_after c (BeginUpdate change ∷ steps) in
@@ -86,7 +86,7 @@ kept c (BeginUpdate change ∷ steps) h =
           })
           (λ other. more c.rules (BeginUpdate change) steps n _ (k.each n (omega (arith, low, next, other))));
     }
-kept c (s ∷ steps) h = let k = kept c steps h.1 in
+history_has_rules c (s ∷ steps) h = let k = history_has_rules c steps h.1 in
     record { last = k.last; each = λ n low. more c.rules s steps n _ (k.each n low) }
 
 -- ---- a beginning of the steps
@@ -114,5 +114,5 @@ version_is c steps k rules h v =
     let low : k ≤ updates_begun_in (state_at c steps place) = subst (λ (w : TableState). k ≤ updates_begun_in w) (sym at) (omega (arith, count)) in (
       omega (arith, low, begun_grows c steps place),
       history_at c steps place k low ∙ (ap (λ (w : TableState). w.history k) at ∙ (ap (state_after c v.older).history (sym count)
-          ∙ ((kept c v.older then).last ∙ sym v.rules_are))),
+          ∙ ((history_has_rules c v.older then).last ∙ sym v.rules_are))),
     )

@@ -12,7 +12,7 @@ ghost use Rattle.shared_fib.specs.LoadedTable.{IsLoaded};
 ghost use Rattle.shared_fib.specs.Passes.{IsFullBench};
 ghost use Rattle.shared_fib.specs.RunningTable.{initial_data_of, initial_writer, initial_state};
 
-use crate::pack::pack_all;
+use crate::packed_words::pack_all;
 use crate::{Bench, InitialTable, SharedTable, Writer};
 use defer_queue::DeferQueue;
 use fib::Fib;

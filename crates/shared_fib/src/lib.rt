@@ -13,7 +13,7 @@ mod initial_rules;
 mod initial_table;
 pub mod laws;
 mod memory;
-mod pack;
+mod packed_words;
 mod pairs;
 mod pass;
 mod queries;

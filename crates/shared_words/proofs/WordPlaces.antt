@@ -226,8 +226,8 @@ module _ (o : InitialData) (words : List ℕ) (w : World) (laid : IsLaidOut o wo
   lays_none t progress = lays_same _ refl refl refl (λ k. refl)
 
 -- how many words there are at the start
-pub opening_count : (o : InitialData) → length (initial_words o) ≡ word_count o
-opening_count o =
+pub initial_count : (o : InitialData) → length (initial_words o) ≡ word_count o
+initial_count o =
     let firsts : List ℕ = packed_words o.firsts in
     let seconds : List ℕ = packed_words o.seconds in
     let calm : List ℕ = replicate o.workers 0 in
@@ -242,10 +242,10 @@ opening_count o =
     )
 
 -- the words at the start, where each is one of 32 bits
-pub lays_opening : (o : InitialData) → ((i : ℕ) → i < length o.firsts → slice_index o.firsts i < 2 ^ 32)
+pub lays_initial : (o : InitialData) → ((i : ℕ) → i < length o.firsts → slice_index o.firsts i < 2 ^ 32)
     → ((j : ℕ) → j < length o.seconds → slice_index o.seconds j < 2 ^ 32)
     → IsLaidOut o (initial_words o) (after (initial_state_of o) [])
-lays_opening o small_first small_second =
+lays_initial o small_first small_second =
     let firsts : List ℕ = packed_words o.firsts in
     let seconds : List ℕ = packed_words o.seconds in
     let f : length firsts ≡ pairs (length o.firsts) = packed_length o.firsts in
@@ -258,7 +258,7 @@ lays_opening o small_first small_second =
     let past : (at k : ℕ) → at ≡ suc (suc (length firsts + k)) → slice_index all at ≡ slice_index rest k =
     λ at k e. behind at (length firsts + k) e ∙ get_or-append-add firsts rest k 0 in
     record {
-      count = opening_count o;
+      count = initial_count o;
       firsts_len = refl;
       seconds_len = refl;
       firsts = λ i lt. ap (half i) (behind (first_at i) (i / 2) (omega arith)

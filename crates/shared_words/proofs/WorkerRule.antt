@@ -15,7 +15,7 @@ use Rattle.lpm_trace.specs.Trace.{Worker as WorkerState, worker_by_step, MayRead
 use Rattle.lpm_trace.specs.Writer.{IsWritten}
 use Rattle.lpm_trace.specs.Laws.{IsLegalAtPlace, ArePlaced}
 use Rattle.lpm_trace.proofs.Versions.{with_at_case}
-use Rattle.lpm_trace.proofs.Traces.{tables_of}
+use Rattle.lpm_trace.proofs.Traces.{state_is}
 use Rattle.lpm_trace.proofs.Promises.{writer_is_alone, words_are_entries, own_lookups_are_legal, own_steps_are_placed, places_never_fall}
 use Rattle.shared_words.specs.declared.view.Role.{Role}
 use Rattle.shared_words.specs.declared.view.Role.TheVariants.{Writer, Worker, Note}
@@ -176,7 +176,7 @@ module _ (o : InitialData) where
   sound v k steps settled trace initial seen mine =
       let places = places_never_fall k steps in
       let words : IsWords o.first o.second (state_after (initial_state_of o) (writes steps)).words = subst
-      (λ t. IsWords o.first o.second t.words) (tables_of (initial_state_of o) steps)
+      (λ t. IsWords o.first o.second t.words) (state_is (initial_state_of o) steps)
       (words_are_entries (initial_state_of o) steps settled trace) in
       let known : InitialData × List WriterStep → Type 0 = λ z. IsWritten (initial_state_of z.0) z.1
       × IsWords z.0.first z.0.second (state_after (initial_state_of z.0) z.1).words in

@@ -16,7 +16,7 @@ use Rattle.lpm_trace.specs.States.{TableState, IsSettled, state_after, state_by_
 use Rattle.lpm_trace.specs.Progress.{progress_by_step}
 use Rattle.lpm_trace.specs.Trace.{World, IsTrace, apply, after, writes, own_steps}
 use Rattle.lpm_trace.specs.Writer.{MayStep, Finds as FindsCounter}
-use Rattle.lpm_trace.proofs.Traces.{tables_of}
+use Rattle.lpm_trace.proofs.Traces.{state_is}
 use Rattle.lpm_trace.proofs.Promises.{writer_is_alone, writer_goes_on, passed_is_checked, words_are_entries}
 use Rattle.shared_words.specs.declared.view.Role.{Role}
 use Rattle.shared_words.specs.declared.view.Role.TheVariants.{Writer, Worker, Note}
@@ -24,7 +24,7 @@ use Rattle.shared_words.specs.declared.view.View.{View}
 use Rattle.shared_words.specs.Layout.{InitialData, initial_state_of, IsLaidOut, half, first_at, second_at, sequence_at, token_at, counter_at, initial_words}
 use Rattle.shared_words.specs.Rule.{IsLater, SeatPlan, Sits, IsViewOf, Holds, writer_view, worker_view, with_one_more}
 use Rattle.shared_words.specs.Seats.{AreLawful, WriterGains, IsFoundAt, WriterLooks, with_step, state_of_view, MayFollow}
-use Rattle.shared_words.proofs.WordPlaces.{firsts_length, seconds_length, lays_first, lays_second, lays_sequence, lays_token, lays_none, lays_opening}
+use Rattle.shared_words.proofs.WordPlaces.{firsts_length, seconds_length, lays_first, lays_second, lays_sequence, lays_token, lays_none, lays_initial}
 
 abbrev St : Type 0
 St = State (Unit {0}) View
@@ -132,7 +132,7 @@ module _ (o : InitialData) where
       → AreLawful o (writes steps)
   lawful_in steps settled trace =
       let c = initial_state_of o in
-      let now : (world_by steps).state ≡ tables_by (writes steps) = tables_of c steps in record {
+      let now : (world_by steps).state ≡ state_after_writer (writes steps) = state_is c steps in record {
         written = writer_is_alone c steps trace;
         words = subst (λ (z : TableState). IsWords o.first o.second z.words) now (words_are_entries c steps settled trace);
         checked = λ token pos low. passed_is_checked c steps token trace pos low;
@@ -152,7 +152,7 @@ module _ (o : InitialData) where
   finds : (s : St) (h : Holds o s) (at : ℕ) → IsFoundAt o (writes h.steps) at (slice_index s.words at)
   finds s h at =
       let c = initial_state_of o in
-      let now : (world_by h.steps).state ≡ tables_by (writes h.steps) = tables_of c h.steps in
+      let now : (world_by h.steps).state ≡ state_after_writer (writes h.steps) = state_is c h.steps in
       let found : (k : ℕ) → at ≡ k → slice_index s.words at ≡ slice_index s.words k =
       λ k e. ap (slice_index s.words) e in
       record {
@@ -174,13 +174,13 @@ module _ (o : InitialData) where
     -- a store: the word becomes n
     store_allowed : (n : ℕ) (step : WriterStep) → MayFollow me.0 step
         → ((steps : List TraceStep) → FindsCounter (initial_state_of o) steps step)
-        → ((words : List ℕ) (w : World) → me.0.initial ≡ o → w.state ≡ tables_by seen
+        → ((words : List ℕ) (w : World) → me.0.initial ≡ o → w.state ≡ state_after_writer seen
         → IsLaidOut o words w → IsLaidAfter (slice_set words at n) w step)
         → Allows (Holds o) slots id me at (λ _. n) (λ _. WriterGains step me)
     store_allowed n step may found lays s h fits here range =
         let mine : Sits o h.steps h.seating id me.0 Writer = sits_writer s h id me.0 here was in
         let w : World = world_by h.steps in
-        let now : w.state ≡ tables_by seen = tables_of (initial_state_of o) h.steps ∙ ap tables_by (sym mine.2) in
+        let now : w.state ≡ state_after_writer seen = state_is (initial_state_of o) h.steps ∙ ap state_after_writer (sym mine.2) in
         let may' = subst (λ (z : InitialData). MayStep (initial_state_of z) seen step) mine.1 may in
         let laid : IsLaidAfter (slice_set s.words at n) w step = lays s.words w mine.1 now h.words in (
           with_step me.0 step,
@@ -216,13 +216,13 @@ module _ (o : InitialData) where
 
     -- the next number of the sequence is stored
     next_sequence : (n : ℕ) (step : WriterStep) → at ≡ sequence_at → n ≡ (state_of_view me.0).sequence + 1
-        → (words : List ℕ) (w : World) → me.0.initial ≡ o → w.state ≡ tables_by seen
+        → (words : List ℕ) (w : World) → me.0.initial ≡ o → w.state ≡ state_after_writer seen
         → IsLaidAfter (slice_set words sequence_at (suc w.state.sequence)) w step
         → IsLaidAfter (slice_set words at n) w step
     next_sequence n step place next words w is now laid =
-        let one : (state_of_view me.0).sequence ≡ (tables_by seen).sequence =
+        let one : (state_of_view me.0).sequence ≡ (state_after_writer seen).sequence =
         ap (λ (z : InitialData). (state_after (initial_state_of z) seen).sequence) is in
-        let two : w.state.sequence ≡ (tables_by seen).sequence = ap (λ (z : TableState). z.sequence) now in
+        let two : w.state.sequence ≡ (state_after_writer seen).sequence = ap (λ (z : TableState). z.sequence) now in
         let same : n ≡ suc w.state.sequence = omega (arith, next, one, two) in
         subst (λ (z : ℕ × ℕ). IsLaidAfter (slice_set words z.0 z.1) w step)
         (λ i. (sym place i, sym same i)) laid
@@ -247,9 +247,9 @@ module _ (o : InitialData) where
         → Allows (Holds o) slots id me at (λ _. n) (λ _. WriterGains BumpToken me)
     bump_allowed n place next may = store_allowed n BumpToken may (λ _. tt)
         (λ words w is now laid.
-        let one : (state_of_view me.0).token ≡ (tables_by seen).token =
+        let one : (state_of_view me.0).token ≡ (state_after_writer seen).token =
         ap (λ (z : InitialData). (state_after (initial_state_of z) seen).token) is in
-        let two : w.state.token ≡ (tables_by seen).token = ap (λ (z : TableState). z.token) now in
+        let two : w.state.token ≡ (state_after_writer seen).token = ap (λ (z : TableState). z.token) now in
         let same : n ≡ suc w.state.token = omega (arith, next, one, two) in
         subst (λ (z : ℕ × ℕ). IsLaidAfter (slice_set words z.0 z.1) w BumpToken)
         (λ i. (sym place i, sym same i))
@@ -394,7 +394,7 @@ module _ (o : InitialData) where
     seating = alone;
     settled = settled;
     trace = tt;
-    words = subst (λ (ws : List ℕ). IsLaidOut o ws (world_by [])) (sym are) (lays_opening o
+    words = subst (λ (ws : List ℕ). IsLaidOut o ws (world_by [])) (sym are) (lays_initial o
         (λ i lt. word_below (o.first + o.second) _ widths (settled.words.first_words i lt).0)
         (λ j lt. word_below (o.first + o.second) _ widths (settled.words.second_words j lt).0));
     made = omega arith;

@@ -9,8 +9,8 @@ ghost use Rattle.storm.specs.Writer.{HasMade, IsForWriter};
 ghost use Rattle.storm.specs.Workers.{AreInSeats, IsOver, IsReadyFor, IsUnused, number_of};
 ghost use Rattle.storm.specs.Storm.{EndsStorm, HasMadeAll, IsInRange, answer_count, limits_of, most_answers, IsStorm};
 
-use crate::finish::{count_refused, count_wrong_answers, history_of, meet_all, report_of, settle};
 use crate::plan::{Plan, StormError};
+use crate::results::{count_refused, count_wrong_answers, history_of, meet_all, report_of, settle};
 use crate::threads::run_threads;
 use crate::workers::Worker;
 use crate::writer::Recorder;

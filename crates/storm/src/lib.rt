@@ -3,8 +3,8 @@
 #![tactic(auto)]
 
 mod engine;
-mod finish;
 mod plan;
+mod results;
 mod threads;
 mod workers;
 mod writer;

@@ -10,7 +10,7 @@ use std::alloc::{AllocError, Global};
 
 /// A finished lookup of one address. Steps are numbered from 1.
 #[derive(Clone, Copy, Debug, PartialEq, Eq)]
-pub struct Seen {
+pub struct FinishedLookup {
     /// The address.
     pub addr: u32,
     /// The number of the next hop; none for a miss.
@@ -27,15 +27,15 @@ pub struct Seen {
 
 /// What a lookup has seen of an address, where the lookup's steps are these, and those at these places
 /// read the address's first and last word.
-fn seen_of(
+fn finished_of(
     trace: Moment<'_>,
     whole: &[Numbered],
     addr: u32,
     first: usize,
     last: usize,
-) -> Option<Seen> {
+) -> Option<FinishedLookup> {
     let read = whole.get(last)?;
-    Some(Seen {
+    Some(FinishedLookup {
         addr,
         hop: hop_in(read.step.value),
         first: whole.get(first)?.number,
@@ -46,11 +46,11 @@ fn seen_of(
 }
 
 /// Puts what a lookup has seen of each of these addresses to the rest, where its steps are these.
-pub(crate) fn push_seen(
+pub(crate) fn push_finished(
     trace: Moment<'_>,
     whole: &[Numbered],
     addrs: &[u32],
-    seen: &mut Vec<Seen>,
+    seen: &mut Vec<FinishedLookup>,
 ) -> Result<(), AllocError> {
     // The place of the next load of a second word.
     let mut second = addrs.len().saturating_add(1);
@@ -61,7 +61,7 @@ pub(crate) fn push_seen(
             last = second;
             second = second.saturating_add(1);
         }
-        if let Some(one) = seen_of(trace, whole, *addr, first, last) {
+        if let Some(one) = finished_of(trace, whole, *addr, first, last) {
             seen.push(one)?;
         }
     }
@@ -76,7 +76,7 @@ pub fn lookups(
     steps: &[Step],
     worker: usize,
     deeds: &[Deed],
-) -> Result<Vec<Seen>, AllocError> {
+) -> Result<Vec<FinishedLookup>, AllocError> {
     Ok(progress_of(alloc, initial, steps, worker, deeds)?.lookups)
 }
 
@@ -119,7 +119,7 @@ pub fn never_falls(
     initial: &InitialState,
     versions: &Versions,
     steps: &[Step],
-    seen: &[Seen],
+    seen: &[FinishedLookup],
 ) -> bool {
     for one in seen {
         if !is_by_shown(initial, versions, steps, one) {

@@ -1,7 +1,7 @@
 //! The deeds of a worker, and the steps that they are made of.
 
 use super::InitialState;
-use super::answers::{Seen, push_seen};
+use super::answers::{FinishedLookup, push_finished};
 use super::memory::group_in;
 use super::moment::Moment;
 use lpm_trace::{Actor, Deed, Kind, Step};
@@ -171,7 +171,7 @@ pub(crate) struct WorkerProgress {
     /// How many steps its deeds make; none where its steps are those of other deeds.
     pub(crate) due: Option<usize>,
     /// Its finished lookups, one for each address, in order.
-    pub(crate) lookups: Vec<Seen>,
+    pub(crate) lookups: Vec<FinishedLookup>,
 }
 
 impl WorkerProgress {
@@ -209,7 +209,7 @@ fn follow(
     worker: usize,
     deeds: &[Deed],
     own: &[Numbered],
-    lookups: &mut Vec<Seen>,
+    lookups: &mut Vec<FinishedLookup>,
 ) -> Result<Option<usize>, AllocError> {
     let mut due: usize = 0;
     for deed in deeds {
@@ -218,7 +218,7 @@ fn follow(
             return Ok(None);
         };
         if let Some(whole) = rest.get(..length) {
-            push_seen(trace, whole, addresses_of(deed), lookups)?;
+            push_finished(trace, whole, addresses_of(deed), lookups)?;
         }
         due = due.saturating_add(length);
     }

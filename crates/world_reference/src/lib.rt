@@ -18,7 +18,7 @@ mod judge_error;
 mod slow_writer;
 mod verdict;
 
-pub use answers::{Seen, is_legal, lookups, never_falls};
+pub use answers::{FinishedLookup, is_legal, lookups, never_falls};
 pub use deeds::{deeds_are_done, deeds_are_sound};
 pub use initial::InitialState;
 pub use judge_error::JudgeError;

@@ -84,11 +84,11 @@ fn lookups_by(
     alloc: Global,
     lookups: &[Seen],
     worker: usize,
-) -> Result<Vec<answers::Seen>, AllocError> {
+) -> Result<Vec<answers::FinishedLookup>, AllocError> {
     let mut own = Vec::new(alloc);
     for seen in lookups {
         if seen.worker == worker {
-            own.push(answers::Seen {
+            own.push(answers::FinishedLookup {
                 addr: seen.addr,
                 hop: seen.hop.map(|hop| hop.number()),
                 first: seen.first,
@@ -106,7 +106,7 @@ fn are_lawful(
     initial: &InitialState,
     versions: &Versions,
     steps: &[Step],
-    lookups: &[answers::Seen],
+    lookups: &[answers::FinishedLookup],
 ) -> bool {
     for seen in lookups {
         if !is_legal(initial, versions, steps, seen) {
@@ -165,7 +165,7 @@ fn judge_deeds(
     run: Run<'_>,
     worker: usize,
     script: &[Deed],
-) -> Result<Vec<answers::Seen>, JudgeError> {
+) -> Result<Vec<answers::FinishedLookup>, JudgeError> {
     let items = items_of(run.schedule, Actor::Worker(worker));
     let progress = progress_of(alloc, run.initial, &run.trace.steps, worker, script)?;
     let is_led = progress.made == items || progress.due == Some(progress.made);

@@ -13,12 +13,12 @@ use std::process::Abort;
 // A table's part in a reclaim: its domain, and the token under which each group is retired, 0 for
 // none.
 #[derive(Drop)]
-struct Plain<'a> {
+struct TablePart<'a> {
     domain: &'a Domain,
     tokens: &'a mut Vec<u64>,
 }
 
-impl Grace for Plain<'_> {
+impl Grace for TablePart<'_> {
     ghost use Rattle.std.specs.Prelude.{◌≡◌, ◌<◌, [], ◌∷◌, slice_index, slice_set};
     ghost use Rattle.qsbr.specs.Counters.{IsChecked};
     ghost use Rattle.defer_queue.specs.RetiredGroups.{AreRetired, IsAbsent};
@@ -116,7 +116,7 @@ fn reclaim(domain: &Domain, queue: &mut DeferQueue, tokens: &mut Vec<u64>, max: 
     ensures longest { TakesLongest (λ token r. IsChecked token domain.now.counters r)
         max queue.old.items result.freed result.stopped }
 {
-    let mut grace = Plain { domain, tokens };
+    let mut grace = TablePart { domain, tokens };
     queue.reclaim(max, &mut grace)
 }
 
@@ -153,7 +153,7 @@ fn assert_reclaimed(rt: &impl Abort, alloc: Global, counters: [u64; 2], max: usi
     assert_first_given_up(rt, &mut domain, &mut queue, &mut tokens, 3, 3);
     domain.set_counter(0, counters[0]);
     domain.set_counter(1, counters[1]);
-    let reclaimed = reclaim(&domain, &mut queue, &mut tokens, max);
+    let reclaimed = reclaim_by(&domain, &mut queue, &mut tokens, max);
     let plainly = reclaim_plainly(counters, [2, 3, 4], max);
     let front = FRONTS.get(plainly.freed).copied();
     let found = (reclaimed, Some(queue.front()));

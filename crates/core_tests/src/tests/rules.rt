@@ -13,21 +13,21 @@ type SmallPrefix = Prefix<4, 4>;
 
 // A rule of a small table as plain numbers.
 #[derive(Clone, Copy, Debug, PartialEq, Eq)]
-struct Plain {
+struct SmallRule {
     bits: u32,
     len: u32,
     hop: u32,
 }
 
-fn covers(rule: &Plain, addr: u32) -> bool {
+fn covers(rule: &SmallRule, addr: u32) -> bool {
     covers_plainly(8, rule.bits, rule.len, addr)
 }
 
-fn is_of(rule: &Plain, prefix: &SmallPrefix) -> bool {
+fn is_of(rule: &SmallRule, prefix: &SmallPrefix) -> bool {
     rule.bits == prefix.bits() && rule.len == prefix.len()
 }
 
-fn plain_get(rules: &[Plain], prefix: &SmallPrefix) -> Option<u32> {
+fn plain_get(rules: &[SmallRule], prefix: &SmallPrefix) -> Option<u32> {
     for rule in rules {
         if is_of(rule, prefix) {
             return Some(rule.hop);
@@ -37,8 +37,8 @@ fn plain_get(rules: &[Plain], prefix: &SmallPrefix) -> Option<u32> {
 }
 
 // The longest of the rules that are shorter than `limit` and cover the address.
-fn plain_longest(rules: &[Plain], limit: u32, addr: u32) -> Option<Plain> {
-    let mut longest: Option<Plain> = None;
+fn plain_longest(rules: &[SmallRule], limit: u32, addr: u32) -> Option<SmallRule> {
+    let mut longest: Option<SmallRule> = None;
     for rule in rules {
         let is_longer = match longest {
             Some(other) => other.len < rule.len,
@@ -51,12 +51,12 @@ fn plain_longest(rules: &[Plain], limit: u32, addr: u32) -> Option<Plain> {
     longest
 }
 
-fn plain_hop(rules: &[Plain], addr: u32) -> Option<u32> {
+fn plain_hop(rules: &[SmallRule], addr: u32) -> Option<u32> {
     Some(plain_longest(rules, 9, addr)?.hop)
 }
 
 // How many rules longer than 4 bits lie in the block.
-fn plain_deep(rules: &[Plain], block: u32) -> usize {
+fn plain_deep(rules: &[SmallRule], block: u32) -> usize {
     let mut count: usize = 0;
     for rule in rules {
         if rule.len > 4 && rule.bits / 16 == block {
@@ -66,9 +66,9 @@ fn plain_deep(rules: &[Plain], block: u32) -> usize {
     count
 }
 
-fn plain_cover(rules: &Small, prefix: &SmallPrefix) -> Option<Plain> {
+fn plain_cover(rules: &Small, prefix: &SmallPrefix) -> Option<SmallRule> {
     let rule = rules.cover(prefix)?;
-    Some(Plain {
+    Some(SmallRule {
         bits: rule.prefix.bits(),
         len: rule.prefix.len(),
         hop: rule.hop.number(),
@@ -76,7 +76,7 @@ fn plain_cover(rules: &Small, prefix: &SmallPrefix) -> Option<Plain> {
 }
 
 // The rule of the table at the prefix, and its cover.
-fn assert_rule(rt: &impl Abort, rules: &Small, plain: &[Plain], prefix: &SmallPrefix) {
+fn assert_rule(rt: &impl Abort, rules: &Small, plain: &[SmallRule], prefix: &SmallPrefix) {
     let (bits, len) = (prefix.bits(), prefix.len());
     let found = (hop_number(rules.get(prefix)), plain_cover(rules, prefix));
     let plainly = (plain_get(plain, prefix), plain_longest(plain, len, bits));
@@ -84,7 +84,7 @@ fn assert_rule(rt: &impl Abort, rules: &Small, plain: &[Plain], prefix: &SmallPr
 }
 
 // Every address, and every prefix.
-fn assert_rules(rt: &impl Abort, rules: &Small, plain: &[Plain]) {
+fn assert_rules(rt: &impl Abort, rules: &Small, plain: &[SmallRule]) {
     for addr in 0..256u32 {
         let hop = hop_number(rules.longest(addr));
         assert_at(rt, ("longest", addr), hop, plain_hop(plain, addr));
@@ -96,7 +96,7 @@ fn assert_rules(rt: &impl Abort, rules: &Small, plain: &[Plain]) {
 }
 
 // Every block.
-fn assert_blocks(rt: &impl Abort, rules: &Small, plain: &[Plain]) {
+fn assert_blocks(rt: &impl Abort, rules: &Small, plain: &[SmallRule]) {
     let mut blocks = 0usize;
     for block in 0..16u32 {
         let place = block as usize;
@@ -110,7 +110,7 @@ fn assert_blocks(rt: &impl Abort, rules: &Small, plain: &[Plain]) {
     assert_at(rt, "deep blocks", rules.deep_blocks(), blocks);
 }
 
-fn assert_same(rt: &impl Abort, rules: &Small, plain: &[Plain]) {
+fn assert_same(rt: &impl Abort, rules: &Small, plain: &[SmallRule]) {
     assert_at(rt, "rules", rules.len(), plain.len());
     assert_rules(rt, rules, plain);
     assert_blocks(rt, rules, plain);
@@ -124,14 +124,14 @@ fn some_prefix(rt: &impl Abort, i: u32) -> SmallPrefix
 }
 
 // The list without the rule of the prefix.
-fn plain_remove(plain: &mut Vec<Plain>, prefix: &SmallPrefix) {
+fn plain_remove(plain: &mut Vec<SmallRule>, prefix: &SmallPrefix) {
     plain.retain(|rule| !is_of(rule, prefix));
 }
 
 // What comes of a rule that is put into a list of at most so many.
 fn plain_put(
     rt: &impl Abort,
-    plain: &mut Vec<Plain>,
+    plain: &mut Vec<SmallRule>,
     max: usize,
     prefix: &SmallPrefix,
     hop: u32,
@@ -143,7 +143,7 @@ fn plain_put(
         None => Put::Added,
     };
     plain_remove(plain, prefix);
-    let rule = Plain {
+    let rule = SmallRule {
         bits: prefix.bits(),
         len: prefix.len(),
         hop,
@@ -155,7 +155,7 @@ fn plain_put(
 // How many rules the table and the list have room for.
 const MOST_RULES: usize = 24;
 
-fn put_all(rt: &impl Abort, rules: &mut Small, plain: &mut Vec<Plain>) {
+fn put_all(rt: &impl Abort, rules: &mut Small, plain: &mut Vec<SmallRule>) {
     for i in 0..60u32 {
         let prefix = some_prefix(rt, i);
         let put = rules.put(&prefix, hop(i % 7));
@@ -167,7 +167,7 @@ fn put_all(rt: &impl Abort, rules: &mut Small, plain: &mut Vec<Plain>) {
     }
 }
 
-fn remove_all(rt: &impl Abort, rules: &mut Small, plain: &mut Vec<Plain>) {
+fn remove_all(rt: &impl Abort, rules: &mut Small, plain: &mut Vec<SmallRule>) {
     for i in 0..40u32 {
         let prefix = some_prefix(rt, i);
         let removed = hop_number(rules.remove(&prefix).ok());
@@ -180,7 +180,7 @@ fn remove_all(rt: &impl Abort, rules: &mut Small, plain: &mut Vec<Plain>) {
 }
 
 // The list is filled up, and emptied again.
-fn put_and_remove(rt: &impl Abort, rules: &mut Small, plain: &mut Vec<Plain>) {
+fn put_and_remove(rt: &impl Abort, rules: &mut Small, plain: &mut Vec<SmallRule>) {
     assert_same(rt, rules, plain);
     put_all(rt, rules, plain);
     assert_at(rt, "full", rules.is_full(), true);
@@ -198,7 +198,7 @@ fn put_and_remove(rt: &impl Abort, rules: &mut Small, plain: &mut Vec<Plain>) {
 #[test]
 fn plain_search_agrees(rt: HostRuntime) {
     let mut rules = Small::new(rt.alloc(), MOST_RULES);
-    let mut plain: Vec<Plain> = Vec::new(rt.alloc());
+    let mut plain: Vec<SmallRule> = Vec::new(rt.alloc());
     put_and_remove(&rt, &mut rules, &mut plain);
 }
 

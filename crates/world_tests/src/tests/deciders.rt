@@ -425,11 +425,11 @@ fn deeds_that_can_be_done(rt: HostRuntime) {
 }
 
 // The address, the next hop, the first and the last step of the reads, `lo` and `hi`.
-type Looked = (u32, Option<u32>, usize, usize, u64, u64);
+type FinishedRow = (u32, Option<u32>, usize, usize, u64, u64);
 
-fn seen(looked: &Looked) -> Seen {
+fn finished(looked: &FinishedRow) -> FinishedLookup {
     let (addr, hop, first, last, lo, hi) = *looked;
-    Seen {
+    FinishedLookup {
         addr,
         hop,
         first,
@@ -440,7 +440,7 @@ fn seen(looked: &Looked) -> Seen {
 }
 
 /// The lookups of the whole trace.
-static LOOKED: [Looked; 5] = [
+static LOOKED: [FinishedRow; 5] = [
     (0, Some(5), 8, 13, 1, 2),
     (2, Some(7), 24, 28, 3, 3),
     (0, None, 25, 25, 3, 3),
@@ -449,7 +449,7 @@ static LOOKED: [Looked; 5] = [
 ];
 
 /// Answers of no version that stood.
-static WRONG: [Looked; 5] = [
+static WRONG: [FinishedRow; 5] = [
     (0, Some(7), 8, 13, 1, 2),
     (2, None, 24, 28, 3, 3),
     (0, Some(5), 25, 25, 1, 3),
@@ -458,7 +458,7 @@ static WRONG: [Looked; 5] = [
 ];
 
 /// A version that stood, though not at these reads.
-static LATE: [Looked; 1] = [(0, Some(5), 11, 13, 1, 2)];
+static LATE: [FinishedRow; 1] = [(0, Some(5), 11, 13, 1, 2)];
 
 #[test]
 fn lookups_of_the_trace(rt: HostRuntime) {
@@ -473,17 +473,17 @@ fn lookups_of_the_trace(rt: HostRuntime) {
 }
 
 // Each of these lookups is legal, or none.
-fn assert_legal(rt: &impl Abort, versions: &Versions, looked: &[Looked], wanted: bool) {
+fn assert_legal(rt: &impl Abort, versions: &Versions, looked: &[FinishedRow], wanted: bool) {
     for one in looked {
-        let found = is_legal(&SMALL, versions, ONE_WORKER.steps, &seen(one));
+        let found = is_legal(&SMALL, versions, ONE_WORKER.steps, &finished(one));
         assert_at(rt, ("legal", *one), found, wanted);
     }
 }
 
 // Of each of these lookups the version doesn't fall, or of none.
-fn assert_rising(rt: &impl Abort, versions: &Versions, looked: &[Looked], wanted: bool) {
+fn assert_rising(rt: &impl Abort, versions: &Versions, looked: &[FinishedRow], wanted: bool) {
     for one in looked {
-        let found = never_falls(&SMALL, versions, ONE_WORKER.steps, &[seen(one)]);
+        let found = never_falls(&SMALL, versions, ONE_WORKER.steps, &[finished(one)]);
         assert_at(rt, ("rising", *one), found, wanted);
     }
 }

@@ -3,7 +3,7 @@
 use super::asserts::{
     ADDED, Answer, WORKER, WRITER, assert_at, assert_replies, assert_reply, assert_trace,
 };
-use super::plan::{ONE_GROUP, judged, planned, played, run};
+use super::plan::{ONE_GROUP, judged, planned, played, run_plan};
 use defer_queue::Reclaimed;
 use interleave::{Reply, RunError, Trace};
 use lpm_limits::{Busy, Config, Refusal};
@@ -209,7 +209,7 @@ fn unknown_workers(rt: HostRuntime) -> Result<(), Fail> {
 fn empty_schedules(rt: HostRuntime) -> Result<(), Fail> {
     let edits = [Edit::Flush, Edit::Add(0x10, 4, 7)];
     let plan = planned(&rt, rt.alloc(), ONE_GROUP, &edits, &[Deed::Meet], &[])?;
-    let trace = run(&rt, rt.alloc(), &plan)?;
+    let trace = run_plan(&rt, rt.alloc(), &plan)?;
     assert_trace(&rt, "no items", &trace, 0, &[], &[]);
     Ok(())
 }
@@ -278,11 +278,11 @@ fn last_tokens(rt: HostRuntime) -> Result<(), Fail> {
 
 // The trace of the plan, at the second run where the first is out of memory.
 fn run_again(rt: &impl Abort, alloc: Global, plan: &Plan<4, 4>) -> Result<Trace, Fail> {
-    match run(rt, alloc, plan) {
+    match run_plan(rt, alloc, plan) {
         Ok(trace) => Ok(trace),
         Err(error) => {
             assert_at(rt, "the first run", error, RunError::Memory);
-            Ok(run(rt, alloc, plan)?)
+            Ok(run_plan(rt, alloc, plan)?)
         }
     }
 }
@@ -306,7 +306,7 @@ fn a_refused_growth(rt: HostRuntime) -> Result<(), Fail> {
 // Why a run over these limits has no trace.
 fn fault_of(rt: &impl Abort, alloc: Global, config: Config) -> Result<Option<RunError>, Fail> {
     let plan = planned(rt, alloc, config, &[], &[], &[])?;
-    Ok(run(rt, alloc, &plan).err())
+    Ok(run_plan(rt, alloc, &plan).err())
 }
 
 #[test]

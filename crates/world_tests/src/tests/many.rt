@@ -3,7 +3,7 @@
 ghost use Rattle.lpm_bits.specs.Widths.{IsShape};
 
 use super::asserts::assert_at;
-use super::plan::{ONE_GROUP, judged, run};
+use super::plan::{ONE_GROUP, judged, run_plan};
 use lpm_limits::Config;
 use std::alloc::{AllocError, Global};
 use std::ops::Range;
@@ -63,7 +63,7 @@ fn many_items(rt: HostRuntime) -> Result<(), Fail> {
         ..ONE_GROUP
     };
     let plan: Plan<4, 4> = even(rt.alloc(), config, &sizes(20_000, 20_000, 100_000))?;
-    let trace = run(&rt, rt.alloc(), &plan)?;
+    let trace = run_plan(&rt, rt.alloc(), &plan)?;
     assert_at(&rt, "steps", trace.steps.len(), 100_000);
     Ok(())
 }

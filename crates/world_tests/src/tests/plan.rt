@@ -41,7 +41,7 @@ fn are_sound<const FIRST: u32, const SECOND: u32>(scripts: &[Vec<Deed>]) -> bool
 }
 
 // The run of the plan.
-pub(crate) fn run<const FIRST: u32, const SECOND: u32>(
+pub(crate) fn run_plan<const FIRST: u32, const SECOND: u32>(
     rt: &impl Abort,
     alloc: Global,
     plan: &Plan<FIRST, SECOND>,
@@ -151,7 +151,7 @@ pub(crate) fn judged<const FIRST: u32, const SECOND: u32>(
 ) -> Result<Trace, Fail>
     requires { IsShape FIRST SECOND }
 {
-    let trace = run(rt, alloc, plan)?;
+    let trace = run_plan(rt, alloc, plan)?;
     assert_judged(rt, number, judge(alloc, plan, &trace))?;
     Ok(trace)
 }

@@ -2,7 +2,7 @@
 
 use super::asserts::assert_at;
 use super::faults::exchange;
-use super::plan::{ONE_GROUP, TWO_GROUPS, assert_refused, judged, planned, planned_for, run};
+use super::plan::{ONE_GROUP, TWO_GROUPS, assert_refused, judged, planned, planned_for, run_plan};
 use interleave::Seen;
 use lpm_limits::Config;
 use lpm_trace::{Actor, Deed, Kind, Step};
@@ -166,7 +166,7 @@ fn judged_offline(
         &[],
         &[(Actor::Writer, TAKEN)],
     )?;
-    let mut trace = run(rt, alloc, &alone)?;
+    let mut trace = run_plan(rt, alloc, &alone)?;
     trace.steps = with_an_offline_lookup(rt, alloc, &trace.steps, u64::from(addr & 0xf))?;
     trace.lookups.push(Seen {
         worker: 0,

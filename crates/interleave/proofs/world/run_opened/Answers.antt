@@ -11,35 +11,35 @@ pub answer_all-requires : goal.answer_all-requires
 answer_all-requires g c =
     let f = g.row.FIRST in
     let s = g.row.SECOND in
-    let opening = blank_state f s c.args.control.now.config in
-    let did = c.in_ok-memory.ensures.did opening (opens f s c.args.control.now.config (length c.args.scripts.now) c.requires.workers) in
+    let initial = blank_state f s c.args.control.now.config in
+    let did = c.in_ok-memory.ensures.did initial (opens f s c.args.control.now.config (length c.args.scripts.now) c.requires.workers) in
     let all : length c.in_ok-memory.memory.schedule ≤ length c.args.schedule.now = let same = ap length c.in_ok-memory.ensures.schedule in omega (arith, same) in
-    (omega arith, (omega arith, (omega arith, ((opening, did, c.requires.rests), all))))
+    (omega arith, (omega arith, (omega arith, ((initial, did, c.requires.rests), all))))
 
 pub play_out-requires : goal.play_out-requires
 play_out-requires g c =
     let f = g.row.FIRST in
     let s = g.row.SECOND in
-    let opening = blank_state f s c.args.control.now.config in
-    let did = c.in_ok-memory.ensures.did opening (opens f s c.args.control.now.config (length c.args.scripts.now) c.requires.workers) in
-    let performed = c.in_ok-replies.ensures.performed opening did c.requires.rests in
-    (omega arith, (opening, performed.0, performed.1))
+    let initial = blank_state f s c.args.control.now.config in
+    let did = c.in_ok-memory.ensures.did initial (opens f s c.args.control.now.config (length c.args.scripts.now) c.requires.workers) in
+    let performed = c.in_ok-replies.ensures.performed initial did c.requires.rests in
+    (omega arith, (initial, performed.0, performed.1))
 
 pub returns-clause-runs : goal.returns-clause-runs
 returns-clause-runs g c =
     let f = g.row.FIRST in
     let s = g.row.SECOND in
     let config = c.args.control.now.config in
-    let opening = blank_state f s config in
+    let initial = blank_state f s config in
     let control = c.args.control.now in
     let told = c.requires in
     let scripts = map (λ script. script.items) c.args.scripts.now in
     let schedule = c.args.schedule.now in
-    let did = c.in_ok-memory.ensures.did opening (opens f s config (length c.args.scripts.now) c.requires.workers) in
-    let done = c.in_ok-replies.ensures.performed opening did told.rests in
+    let did = c.in_ok-memory.ensures.did initial (opens f s config (length c.args.scripts.now) c.requires.workers) in
+    let done = c.in_ok-replies.ensures.performed initial did told.rests in
     let same = c.in_ok-replies.ensures.scripts in
     let z = c.play_out.new.self in
-    let played = c.play_out.ensures.played opening done.0 done.1 in
+    let played = c.play_out.ensures.played initial done.0 done.1 in
     let scripts_are : z.scripts ≡ scripts = ap (λ x. x.scripts) c.play_out.ensures.shared ∙ ap (λ x. x.0) same ∙ c.in_ok-memory.ensures.scripts in
     let schedule_is : z.schedule ≡ schedule = ap (λ x. x.schedule) c.play_out.ensures.shared ∙ ap (λ x. x.1) same ∙ c.in_ok-memory.ensures.schedule in
     let start : state_by_steps control.rules [] control.pool control.versions ≡ _ = nothing_yet control.rules.rules (tokens_of control.pool.queue.items) control.versions told.rules (ap tokens_of told.queue) told.versions in

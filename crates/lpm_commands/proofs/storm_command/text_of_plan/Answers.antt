@@ -7,4 +7,4 @@ returns-in-Ok-clause-failure g c =
     IfErr-weaker c.text_on_routes.result _ _ (λ e ends. inr (inr (c.in-Ok.ensures.in_range, ends))) c.text_on_routes.ensures.failure
 
 pub returns-in-Err-clause-failure : goal.returns-in-Err-clause-failure
-returns-in-Err-clause-failure g c = inr (inl (c.in-Err.error, c.in-Err.ensures.failure, c.ending_of.ensures))
+returns-in-Err-clause-failure g c = inr (inl (c.in-Err.error, c.in-Err.ensures.failure, c.storm_ending.ensures))

@@ -14,7 +14,7 @@ use Rattle.lpm_trace.specs.declared.step.RuleChange.{RuleChange}
 use Rattle.lpm_trace.specs.declared.step.RuleChange.TheVariants.{Put as Puts}
 use Rattle.lpm_trace.specs.declared.step.WriterStep.{WriterStep}
 use Rattle.lpm_trace.specs.States.{InitialState, state_after}
-use Rattle.lpm_writer.specs.Take.{Finds, LinksLeast}
+use Rattle.lpm_writer.specs.TakenGroup.{Finds, LinksLeast}
 use Rattle.lpm_writer.specs.MemorySteps.{by_writer}
 use Rattle.lpm_writer.specs.Rest.{IsResting, IsDue, state_of}
 use Rattle.lpm_writer.specs.Commands.{Commands, Rests}

@@ -2,7 +2,7 @@ use Rattle.std.proofs.Common.{rules, ◌≡◌, sym, subst, [], ◌++◌, None}
 use Rattle.std.specs.Prelude.{Ok, IfOk, OnErr}
 use Rattle.lpm_groups.specs.States.{free_count}
 use Rattle.lpm_writer.specs.GroupsMatch.{GroupsMatchSteps}
-use Rattle.lpm_writer.specs.Take.{LinksLeast, Takes, TakesAt, taken_by}
+use Rattle.lpm_writer.specs.TakenGroup.{LinksLeast, Takes, TakesAt, taken_by}
 use Rattle.lpm_writer.specs.MemorySteps.{by_writer}
 use Rattle.lpm_writer.specs.Limbo.{IsQueued, IsTaken}
 use Rattle.lpm_writer.proofs.LimboItems.{taken_from, taken_queue, least_linked, no_tail, may_reclaim}

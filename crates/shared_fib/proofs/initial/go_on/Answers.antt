@@ -4,7 +4,7 @@ use Rattle.lpm_writer.specs.Rest.{IsResting}
 use Rattle.shared_words.specs.Layout.{InitialData, initial_state_of}
 use Rattle.shared_fib.specs.Passes.{IsFullBench}
 use Rattle.shared_fib.specs.RunningTable.{Identity, initial_data_of, initial_writer}
-use Rattle.shared_fib.proofs.Begins.{ready, opens}
+use Rattle.shared_fib.proofs.Openings.{ready, opens}
 use Rattle.shared_fib.proofs.initial.go_on.Goals as goal
 
 pub new-requires : goal.new-requires

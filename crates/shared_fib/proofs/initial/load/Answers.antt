@@ -1,6 +1,6 @@
 use Rattle.std.proofs.Common.{◌≡◌, ◌^◌, ◌<◌, ◌≤◌, refl, rules, arith}
 use Rattle.shared_fib.specs.declared.initial_table.InitialTable.{InitialTable}
-use Rattle.shared_fib.proofs.Begins.{loaded_packed, opens_loaded, loaded_is}
+use Rattle.shared_fib.proofs.Openings.{loaded_packed, opens_loaded, loaded_is}
 use Rattle.shared_fib.proofs.initial.load.Goals as goal
 
 pub returns : goal.returns

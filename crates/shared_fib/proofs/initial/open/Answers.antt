@@ -2,7 +2,7 @@ use Rattle.std.proofs.Common.{ap, ◌∙◌, rules, lit<}
 use Rattle.lpm_writer.specs.Rest.{blank_state}
 use Rattle.fib.proofs.Sound.{sound_new}
 use Rattle.shared_words.specs.Layout.{initial_state_of}
-use Rattle.shared_fib.proofs.Begins.{opens_blank}
+use Rattle.shared_fib.proofs.Openings.{opens_blank}
 use Rattle.shared_fib.proofs.initial.open.Goals as goal
 
 pub returns-in_err-control-clause-bad_config : goal.returns-in_err-control-clause-bad_config

@@ -6,7 +6,7 @@ use Rattle.lpm_writer.specs.Rest.{IsResting}
 use Rattle.lpm_writer.specs.Commands.{IsWaiting}
 use Rattle.shared_words.specs.Layout.{initial_state_of}
 use Rattle.shared_fib.specs.LentSeats.{LentSeat}
-use Rattle.shared_fib.proofs.SeatMemory.{Kept, kept, only_sees, rests_after, outcome_after}
+use Rattle.shared_fib.proofs.SeatMemory.{FixedPart, fixed_part, only_sees, rests_after, outcome_after}
 use Rattle.shared_fib.proofs.Synchronizations.{not_yet, still, once_more, at_last, queued_passed}
 use Rattle.shared_fib.proofs.synchronize.check_until_passed.Goals as goal
 
@@ -48,7 +48,7 @@ returns-in-Ok g c =
     let initial : InitialState = initial_state_of m.view.initial in
     let so_far = c.loop.invariant in
     let now = c.in-Ok.ensures.checks initial y.view.writer_steps so_far.waited.did so_far.waits in
-    let all : kept z ≡ kept m = still m y z so_far.waited now.0 now.1 (Ok tt) now.2 in
+    let all : fixed_part z ≡ fixed_part m = still m y z so_far.waited now.0 now.1 (Ok tt) now.2 in
     let Rests : InitialState → List WriterStep → Type 0 = λ by later.
     IsResting f s by later new.config new.rules new.pool new.versions in
     let rests = rests_after Rests z initial now.0 now.1 now.3 in
@@ -63,7 +63,7 @@ returns-in-Ok g c =
           (subst (λ (l : ControlState f s). 0 < l.config.workers) (sym is) some);
       rests = rests;
       same = is;
-      name = ap (λ (k : Kept). k.0) all;
-      table = ap (λ (k : Kept). k.1.0) all;
+      name = ap (λ (k : FixedPart). k.0) all;
+      table = ap (λ (k : FixedPart). k.1.0) all;
       view = only_sees m z all;
     }

@@ -11,8 +11,8 @@ load_first-word-requires-clause-index g c =
     let begun = c.begin_lookup-low.ensures.step in
     let count = firsts_are _ _ _ _ begun c.view_is_sound.ensures c.requires.first in
     let same = ap (λ (x : View). length x.initial.firsts) begun.view in
-    let opening = ap (λ (o : InitialData). length o.firsts) own.initial_is in
-    omega (arith, c.first_index.ensures.bound, count, same, opening, own.firsts)
+    let initial = ap (λ (o : InitialData). length o.firsts) own.initial_is in
+    omega (arith, c.first_index.ensures.bound, count, same, initial, own.firsts)
 
 pub load_last-word-requires-clause-next : goal.load_last-word-requires-clause-next
 load_last-word-requires-clause-next g c =

@@ -8,7 +8,7 @@ use Rattle.interleave.proofs.Steps.{unused, begins}
 use Rattle.interleave.proofs.world_memory.WorldMemory.new.Goals as goal
 
 pub returns-clause-did : goal.returns-clause-did
-returns-clause-did g c = λ c' opening.
+returns-clause-did g c = λ c' initial.
     let f = g.row.FIRST in
     let s = g.row.SECOND in
     let scripts = map (λ script. script.items) c.args.scripts.now in
@@ -21,7 +21,7 @@ returns-clause-did g c = λ c' opening.
     ap (λ xs. record made { steps = xs }) (sym c.in_ok-steps.ensures.items) ∙ ap (λ xs. record made { steps = c.in_ok-steps.steps.items; seen = xs }) (sym c.in_ok-seen.ensures.items) in
     subst (λ v. WorldDid f s v c' []) same
     (begins f s c.args.groups c.args.first_token words machines scripts schedule c'
-    (subst (λ n. IsInitial f s c.args.groups n c.args.first_token c') (sym count) opening)
+    (subst (λ n. IsInitial f s c.args.groups n c.args.first_token c') (sym count) initial)
     c.in_ok-cells.ensures.firsts c.in_ok-cells.ensures.seconds
     (subst (λ n. AreNew n machines) (sym count) c.in_ok-workers.ensures.new)
     (All-map (IsSound (2 ^ (f + s))) (λ script. script.items) c.args.scripts.now c.requires.sound))

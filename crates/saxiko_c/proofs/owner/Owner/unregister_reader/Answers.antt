@@ -1,7 +1,7 @@
 use Rattle.std.proofs.Common.{◌∙◌, ap, sym, List, Option, Some}
 use Rattle.std.specs.Prelude.{slice_set}
 use Rattle.shared_fib.specs.Passes.{PassState}
-use Rattle.saxiko_c.specs.RunningTable.{OwnerState}
+use Rattle.saxiko_c.specs.RunningTable.{StagedOwner}
 use Rattle.saxiko_c.specs.Stages.{owned_in}
 use Rattle.saxiko_c.specs.declared.owner.Owner.TheInside.{Inside}
 use Rattle.saxiko_c.specs.declared.stage.Stage.{Stage}
@@ -10,7 +10,7 @@ use Rattle.saxiko_c.proofs.owner.Owner.unregister_reader.Goals as goal
 
 pub returns-clause-back : goal.returns-clause-back
 returns-clause-back c =
-    let was = ap (λ (o : OwnerState). o.bench) c.self.view_is in
+    let was = ap (λ (o : StagedOwner). o.bench) c.self.view_is in
     elim c.match-self.branch [
       | in-AtRest w ↦
           let back = w.unregister.ensures.back in (
