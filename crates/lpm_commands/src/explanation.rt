@@ -1,12 +1,10 @@
 //! What explains the answer to an address: the rules that cover it, and the words that a lookup reads.
-ghost use Rattle.std.specs.Prelude.{◌≡◌, ◌+◌, ◌≤◌, ◌<◌, ◌%◌, ◌^◌, ◌++◌, OnOk, IfOk, MatchOption};
+ghost use Rattle.std.specs.Prelude.{◌≡◌, ◌+◌, ◌<◌, ◌%◌, ◌^◌, ◌++◌, OnOk, IfOk};
 ghost use Rattle.std.specs.Option.{option_to_list};
-ghost use Rattle.std.specs.FinMap as map;
-ghost use Rattle.lpm_bits.specs.Network.{prefix_of};
 ghost use Rattle.lpm_cells.specs.Words.{entry_in, IsWords, IsFirstWord};
 ghost use Rattle.lpm_commands.specs.Explain.{AreCovering, IsAnsweredByFirst, reading_of, second_word};
 
-use lpm_bits::{Prefix, Shape};
+use lpm_bits::Shape;
 use lpm_cells::{Entry, PlainCells};
 use lpm_rules::{Rule, Rules};
 use route_text::{Reading, SecondWord};
@@ -33,7 +31,7 @@ pub fn covering_rules<const FIRST: u32, const SECOND: u32>(
     let mut found = Vec::new(alloc);
     let lengths = width + 1;
     for host in 0..lengths {
-        push_found(&mut found, rule_of_length(rules, addr, width - host))?;
+        push_found(&mut found, rules.rule_of_length(addr, width - host))?;
     }
     Ok(found)
 }
@@ -52,24 +50,6 @@ fn push_found<const FIRST: u32, const SECOND: u32>(
             Ok(())
         }
     }
-}
-
-// The rule of this length that covers an address.
-fn rule_of_length<const FIRST: u32, const SECOND: u32>(
-    rules: &Rules<FIRST, SECOND>,
-    addr: u32,
-    len: u32,
-) -> Option<Rule<FIRST, SECOND>>
-    requires addr { addr < 2 ^ (FIRST + SECOND) }
-    requires len { len ≤ FIRST + SECOND }
-    ensures { let prefix = prefix_of (FIRST + SECOND) len addr in
-        MatchOption result (map.get rules.now.rules prefix ≡ None)
-        (λ r. (r.prefix ≡ prefix) × (map.get rules.now.rules r.prefix ≡ Some r.hop)) }
-{
-    let _count = rules.len();
-    let prefix = Prefix::new(addr, len).ok()?;
-    let hop = rules.get(&prefix)?;
-    Some(Rule { prefix, hop })
 }
 
 /// The words that a lookup of the address reads in these tables: one, or two where the first one

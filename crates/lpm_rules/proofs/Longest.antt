@@ -1,18 +1,19 @@
 -- The last change of a prefix decides its rule.
-use Rattle.std.proofs.Common.{◌≡◌, ◌∙◌, ap, refl, ℕ, List, [], ◌∷◌, ◌++◌, inl, inr, arith, ◌+◌, ◌-◌, ◌*◌, ◌/◌, ◌^◌, ◌≤◌, sym, subst, Option, Some, None, length, suc}
+use Rattle.std.proofs.Common.{◌≡◌, ◌∙◌, ap, refl, ℕ, List, [], ◌∷◌, ◌++◌, inl, inr, arith, ◌+◌, ◌-◌, ◌*◌, ◌/◌, ◌^◌, sym, subst, Option, Some, None, length, suc}
 use Rattle.std.specs.Prelude.{All, IsSome}
 use Rattle.std.specs.FinMap.{get, get-empty}
 use Rattle.std.proofs.lemmas.List.Elements.{All-head, All-tail}
 use Rattle.std.proofs.lemmas.List.Sums.{fold-append}
-use Rattle.lpm_bits.specs.Network.{Network, Covers, IsNetwork, network_bits}
+use Rattle.lpm_bits.specs.Network.{Network, Covers, IsNetwork, network_bits, prefix_of}
 use Rattle.lpm_rules.specs.RuleMap.{RuleMap, network_cmp, AllNetworks}
 use Rattle.lpm_rules.specs.declared.Change.{Change}
+use Rattle.lpm_rules.specs.declared.Rule.{Rule}
 use Rattle.lpm_rules.specs.declared.Change.TheVariants.{Add, Delete, Flush, Reclaim, Synchronize}
 use Rattle.lpm_rules.specs.Changes.{rules_with, rules_after, Spares, SparedIsKept, LastAdditionDecides, LastDeletionDecides, LastFlushDecides}
 use Rattle.lpm_rules.proofs.Views.{insert_cases, insert_here, remove_cases, remove_here, not_some}
-use Rattle.std.proofs.lemmas.Bool.{cases_eq}
+use Rattle.std.proofs.lemmas.Bool.{cases_lt}
 use Rattle.std.proofs.lemmas.Nat.{shl-shr}
-use Rattle.lpm_rules.specs.Longest.{IsLongestHop, AreLongestHops, IsCoverRule, HasOneLongestHop, HasOneCover}
+use Rattle.lpm_rules.specs.Longest.{IsLongestHop, AreLongestHops, IsCoverRule, IsMatch, HasOneLongestHop, HasOneCover}
 
 pub rules_after-append : (f s : ℕ) (R : RuleMap) (xs ys : List (Change f s)) → rules_after R (xs ++ ys) ≡ rules_after (rules_after R xs) ys
 rules_after-append f s R xs ys = fold-append (λ (x : RuleMap) (c : Change f s). rules_with x c) R xs ys
@@ -55,26 +56,25 @@ pub same_length : (width a : ℕ) (p q : Network) → IsNetwork width p → IsNe
 same_length width a p q np nq cp cq e =
     network_at width a p np cp ∙ ap (λ n. record { bits = network_bits width n a; len = n }) e ∙ sym (network_at width a q nq cq)
 
--- no rule of that length covers the address, so the rules that do are shorter
-pub shorter : (width a host : ℕ) (R : RuleMap) → AllNetworks width R → host ≤ width → get R (record { bits = network_bits width (width - host) a; len = width - host }) ≡ None
-    → ((q : Network) → IsSome (get R q) → Covers width q a → q.len + host ≤ width)
-    → (q : Network) → IsSome (get R q) → Covers width q a → q.len + (host + 1) ≤ width
-shorter width a host R nets l none old q some cov =
-    let z = old q some cov in
-    elim (cases_eq q.len (width - host)) [
-      | inl e ↦ absurd (not_some (ap (get R) (network_at width a q (nets q some) cov) ∙ ap (λ n. get R (record { bits = network_bits width n a; len = n })) e ∙ none) some)
-      | inr n ↦ omega (arith, z, n)
-    ]
+-- a rule that covers the address is that of the prefix of the address of its length
+has_rule : (width a : ℕ) (R : RuleMap) (q : Network) → AllNetworks width R → IsSome (get R q) → Covers width q a → get R (prefix_of width q.len a) ≡ None → ⊥
+has_rule width a R q nets some cov none = not_some (ap (get R) (network_at width a q (nets q some) cov) ∙ none) some
 
--- a rule of that length covers the address, and is the longest
-pub found : (width a host : ℕ) (R : RuleMap) (h : ℕ) → host ≤ width → get R (record { bits = network_bits width (width - host) a; len = width - host }) ≡ Some h
-    → ((q : Network) → IsSome (get R q) → Covers width q a → q.len + host ≤ width) → IsLongestHop width R a (Some h)
-found width a host R h l some old = (
-  record { bits = network_bits width (width - host) a; len = width - host },
-  some,
+-- no prefix of the address has a rule, so none covers it
+pub none_matches : (first second a : ℕ) (R : RuleMap) → AllNetworks (first + second) R → IsMatch first second R a None → IsLongestHop (first + second) R a None
+none_matches first second a R nets none q some cov = has_rule (first + second) a R q nets some cov (none q.len (nets q some).0)
+
+-- the rule that answers the address is the longest that covers it
+pub hop_of_match : (first second a : ℕ) (R : RuleMap) (rule : Rule first second) → AllNetworks (first + second) R → IsMatch first second R a (Some rule) → IsLongestHop (first + second) R a (Some rule.hop)
+hop_of_match first second a R rule nets is = (
+  rule.prefix,
+  is.0,
   record {
-    covers = covers_masked width (width - host) a;
-    longest = λ q s c. let z = old q s c in omega (arith, z);
+    covers = subst (λ (p : Network). Covers (first + second) p a) (sym is.1) (covers_masked (first + second) rule.prefix.len a);
+    longest = λ q some cov. elim (cases_lt rule.prefix.len q.len) [
+      | inl longer ↦ absurd (has_rule (first + second) a R q nets some cov (is.2 q.len longer (nets q some).0))
+      | inr within ↦ within
+    ];
   },
 )
 

@@ -290,6 +290,22 @@ impl<const FIRST: u32, const SECOND: u32> Rules<FIRST, SECOND> {
         count
     }
 
+    /// The rule of this length that covers an address: that of the prefix which the address's first
+    /// `len` bits make, where `len` is from 0 to `FIRST + SECOND`. None where that prefix has no
+    /// rule, also where a rule of another length covers the address. It looks one key up.
+    pub fn rule_of_length(&self, addr: u32, len: u32) -> Option<Rule<FIRST, SECOND>>
+        requires addr { addr < 2 ^ (FIRST + SECOND) }
+        requires len { len ≤ FIRST + SECOND }
+        ensures { let prefix = prefix_of (FIRST + SECOND) len addr in
+            MatchOption result (map.get self.now.rules prefix ≡ None)
+            (λ r. (r.prefix ≡ prefix) × (map.get self.now.rules r.prefix ≡ Some r.hop)) }
+    {
+        let _ = &self.lengths;
+        let prefix = Prefix::new(addr, len).ok()?;
+        let hop = self.of_length(len).get(&prefix.bits()).copied()?;
+        Some(Rule { prefix, hop })
+    }
+
     /// The longest of the rules that are shorter than the prefix and cover it: the rule that a
     /// deleted prefix falls back to.
     pub fn cover(&self, prefix: &Prefix<FIRST, SECOND>) -> Option<Rule<FIRST, SECOND>>
@@ -300,7 +316,7 @@ impl<const FIRST: u32, const SECOND: u32> Rules<FIRST, SECOND> {
         let bits = prefix.bits();
         let len = prefix.len();
         for shorter in 1..=len {
-            if let Some(rule) = self.covering(bits, len - shorter) {
+            if let Some(rule) = self.rule_of_length(bits, len - shorter) {
                 return Some(rule);
             }
         }
@@ -313,13 +329,8 @@ impl<const FIRST: u32, const SECOND: u32> Rules<FIRST, SECOND> {
         ensures { IsLongestHop (FIRST + SECOND) self.now.rules addr result }
     {
         let _ = &self.lengths;
-        let width = FIRST + SECOND;
-        for host in 0..=width {
-            if let Some(rule) = self.covering(addr, width - host) {
-                return Some(rule.hop);
-            }
-        }
-        None
+        let rule = self.longest_rule(addr)?;
+        Some(rule.hop)
     }
 
     /// Whether a rule longer than `FIRST` bits lies in a block: the addresses whose first `FIRST`
@@ -409,19 +420,5 @@ impl<const FIRST: u32, const SECOND: u32> Rules<FIRST, SECOND> {
         let length = self.of_length(len);
         let (bits, _) = length.range(..=last).next_back()?;
         Some((*bits >> SECOND) as usize)
-    }
-
-    // The rule of this length that covers an address.
-    fn covering(&self, addr: u32, len: u32) -> Option<Rule<FIRST, SECOND>>
-        requires addr { addr < 2 ^ (FIRST + SECOND) }
-        requires len { len ≤ FIRST + SECOND }
-        ensures { let prefix = prefix_of (FIRST + SECOND) len addr in
-            MatchOption result (map.get self.now.rules prefix ≡ None)
-            (λ r. (r.prefix ≡ prefix) × (map.get self.now.rules r.prefix ≡ Some r.hop)) }
-    {
-        let _ = &self.lengths;
-        let prefix = Prefix::new(addr, len).ok()?;
-        let hop = self.of_length(len).get(&prefix.bits()).copied()?;
-        Some(Rule { prefix, hop })
     }
 }

@@ -15,7 +15,7 @@ impl<const FIRST: u32, const SECOND: u32> Rules<FIRST, SECOND> {
         let _ = &self.lengths;
         let width = FIRST + SECOND;
         for host in 0..=width {
-            if let Some(rule) = self.covering(addr, width - host) {
+            if let Some(rule) = self.rule_of_length(addr, width - host) {
                 return Some(rule);
             }
         }

@@ -1,10 +1,18 @@
-use Rattle.std.proofs.Common.{arith, ap, sym, ◌∙◌, ◌+◌}
-use Rattle.std.specs.FinMap as map
-use Rattle.lpm_rules.proofs.Longest.{found}
+use Rattle.std.proofs.Common.{◌+◌, ap, sym, subst}
+use Rattle.lpm_rules.specs.RuleMap.{RuleList, AllNetworks}
+use Rattle.lpm_rules.specs.Longest.{IsLongestHop}
+use Rattle.lpm_rules.proofs.Longest.{none_matches, hop_of_match}
 use Rattle.lpm_rules.proofs.Rules.longest.Goals as goal
 
-pub returns-in-Some : goal.returns-in-Some
-returns-in-Some g c =
-    found (g.row.FIRST + g.row.SECOND) c.args.addr c.loop-host.host c.args.self.now.rules c.in-Some.rule.hop (omega arith)
-    (ap (map.get c.args.self.now.rules) (sym c.in-Some.ensures.0) ∙ c.in-Some.ensures.1)
-    c.loop-host.invariant
+pub returns-in_err-rule : goal.returns-in_err-rule
+returns-in_err-rule g c =
+    let width = g.row.FIRST + g.row.SECOND in
+    let nets = subst (AllNetworks width) (ap (λ (m : RuleList). m.rules) c.self.view_is) c.self.invariant.networks in
+    subst (IsLongestHop width c.args.self.now.rules c.args.addr) (sym c.from_residual.ensures)
+    (none_matches g.row.FIRST g.row.SECOND c.args.addr c.args.self.now.rules nets c.in_err-rule.ensures)
+
+pub returns : goal.returns
+returns g c =
+    let width = g.row.FIRST + g.row.SECOND in
+    let nets = subst (AllNetworks width) (ap (λ (m : RuleList). m.rules) c.self.view_is) c.self.invariant.networks in
+    hop_of_match g.row.FIRST g.row.SECOND c.args.addr c.args.self.now.rules c.in_ok-rule.rule nets c.in_ok-rule.ensures
