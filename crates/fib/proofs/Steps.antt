@@ -13,7 +13,8 @@ use Rattle.lpm_trace.specs.declared.step.WriterStep.TheVariants.{StoreFirst, Sto
 use Rattle.lpm_trace.specs.States.{InitialState, state_after, lets_pass}
 use Rattle.lpm_writer.specs.declared.plain_memory.PlainMemory.{PlainMemory}
 use Rattle.lpm_writer.specs.Plain.{PlainDoes}
-use Rattle.lpm_writer.specs.MemorySteps.{WithSteps, Goes, Loads, Checks, Stores, UnlinksNone, by_writer}
+use Rattle.lpm_writer.specs.TokenCheck.{Loads}
+use Rattle.lpm_writer.specs.MemorySteps.{WithSteps, Goes, Checks, Stores, UnlinksNone, by_writer}
 
 -- ---- counters and tokens
 
@@ -135,10 +136,10 @@ module _ (first second : ℕ) (c : InitialState) where
         found,
       )
 
-  asked : (n token : ℕ) (x z : WithSteps Memory) (r : Registry) → Shows x r → Loads does n x token z → Shows z r × AreThrough n token r.counters
-  asked zero token x z r k h = (subst (λ y. Shows y r) (sym h) k, λ w low. absurd (omega (arith, low)))
-  asked (suc n) token x z r k h =
-      let before = asked n token x h.0 r k h.2 in
+  loads : (n token : ℕ) (x z : WithSteps Memory) (r : Registry) → Shows x r → Loads (Goes does) n x token z → Shows z r × AreThrough n token r.counters
+  loads zero token x z r k h = (subst (λ y. Shows y r) (sym h) k, λ w low. absurd (omega (arith, low)))
+  loads (suc n) token x z r k h =
+      let before = loads n token x h.0 r k h.2 in
       let now = loaded n token h.1 h.0 z r before.0 before.1 h.4 in
       (now.0, one_more n token r.counters before.1 (subst (IsPast token) now.1 (lets_past token h.1 h.3)))
 

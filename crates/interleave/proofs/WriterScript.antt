@@ -7,13 +7,14 @@ use Rattle.lpm_rules.specs.declared.Change.{Change}
 use Rattle.lpm_trace.specs.declared.step.WriterStep.{WriterStep}
 use Rattle.lpm_trace.specs.declared.step.WriterStep.TheVariants.{BumpToken}
 use Rattle.lpm_trace.specs.States.{InitialState}
-use Rattle.lpm_writer.specs.Steps.{AreStopped, Checks, Loads}
+use Rattle.lpm_writer.specs.Steps.{AreStopped, Checks, IsNext}
+use Rattle.lpm_writer.specs.TokenCheck.{Loads}
 use Rattle.interleave.specs.declared.reply.Reply.{Reply}
 use Rattle.interleave.specs.Runs.{StateBySteps, Waits, CameOut, next_token, HaveComeOut, IsUnderWay, AreUnanswered, IsPerformed}
 
 -- ---- how long a wait is
 
-loads_longer : (n : ℕ) (x z : List WriterStep) (token : ℕ) → Loads n x token z → length x ≤ length z
+loads_longer : (n : ℕ) (x z : List WriterStep) (token : ℕ) → Loads IsNext n x token z → length x ≤ length z
 loads_longer zero x z token h = omega (arith, ap length h)
 loads_longer (suc n) x z token h =
     let before = loads_longer n x h.0 token h.2 in

@@ -3,10 +3,10 @@
 ghost use Rattle.std.specs.Prelude.{◌≡◌, ℕ, ◌+◌, ◌≤◌, List, length, MatchOption};
 ghost use Rattle.lpm_trace.specs.declared.step.WriterStep.{WriterStep};
 ghost use Rattle.lpm_trace.specs.States.{InitialState};
-ghost use Rattle.lpm_writer.specs.Rest.{IsResting};
+ghost use Rattle.lpm_writer.specs.Rest.{IsResting, state_of};
 ghost use Rattle.lpm_rules.specs.declared.Change.TheVariants.{Synchronize};
 ghost use Rattle.interleave.specs.World.{WorldDid, scripts_and_schedule};
-ghost use Rattle.interleave.specs.Runs.{HasTokensLeft, Waits, Answers, state_by_steps};
+ghost use Rattle.interleave.specs.Runs.{HasTokensLeft, Waits, Answers};
 
 use super::Reply;
 use crate::WorldMemory;
@@ -27,15 +27,15 @@ pub(crate) fn synchronize<const FIRST: u32, const SECOND: u32>(
         → IsResting FIRST SECOND c steps control.old.config control.old.rules control.old.pool
         control.old.versions
         → MatchOption result
-        (HasTokensLeft c control.old.config (state_by_steps control.old.rules steps control.old.pool
+        (HasTokensLeft c control.old.config (state_of control.old.rules.rules steps control.old.pool
         control.old.versions)
         × ((later : List WriterStep) × WorldDid FIRST SECOND memory.new c later
         × Waits c tries steps later))
         (λ reply. (later : List WriterStep) × WorldDid FIRST SECOND memory.new c later
         × IsResting FIRST SECOND c later control.new.config control.new.rules control.new.pool
         control.new.versions
-        × Answers c FIRST SECOND control.old.config (state_by_steps control.old.rules steps control.old.pool
-        control.old.versions) Synchronize reply (state_by_steps control.new.rules later control.new.pool
+        × Answers c FIRST SECOND control.old.config (state_of control.old.rules.rules steps control.old.pool
+        control.old.versions) Synchronize reply (state_of control.new.rules.rules later control.new.pool
         control.new.versions)) }
     ensures scripts { scripts_and_schedule memory.new ≡ scripts_and_schedule memory.old }
     ensures config { control.new.config ≡ control.old.config }

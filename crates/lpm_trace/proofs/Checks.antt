@@ -20,12 +20,12 @@ use Rattle.lpm_cells.specs.Words.{IsLastWord, entry_in, IsFirst, IsFirstWord, Is
 
 -- The writer's steps by themselves.
 
--- what the workers do leaves the writer's course
-course_of : (c : InitialState) (steps : List TraceStep) → (after c steps).progress ≡ progress_after c (writes steps)
-course_of c [] = refl
-course_of c (Writer s ∷ steps) =
-    ap (λ w. progress_by_step c w (after c steps).progress s) (tables_of c steps) ∙ ap (λ x. progress_by_step c (state_after c (writes steps)) x s) (course_of c steps)
-course_of c (ByWorker k s ∷ steps) = course_of c steps
+-- what the workers do leaves the writer's progress
+progress_is : (c : InitialState) (steps : List TraceStep) → (after c steps).progress ≡ progress_after c (writes steps)
+progress_is c [] = refl
+progress_is c (Writer s ∷ steps) =
+    ap (λ w. progress_by_step c w (after c steps).progress s) (state_is c steps) ∙ ap (λ x. progress_by_step c (state_after c (writes steps)) x s) (progress_is c steps)
+progress_is c (ByWorker k s ∷ steps) = progress_is c steps
 
 -- a load alone looks at a counter
 by_found : (c : InitialState) (counters : ℕ → ℕ) (w : TableState) (s : WriterStep) → MayWrite c counters w s → MayWrite c (counter_found s) w s

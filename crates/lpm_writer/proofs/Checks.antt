@@ -6,8 +6,9 @@ use Rattle.lpm_trace.specs.declared.step.WriterStep.TheVariants.{LoadCounter}
 use Rattle.lpm_trace.specs.States.{InitialState, TableState, state_after, lets_pass}
 use Rattle.lpm_trace.specs.Progress.{WriterProgress, Check, IsLoadDue, progress_after_pass, progress_after_stop, progress_after_load, Nothing}
 use Rattle.lpm_trace.specs.Writer.{progress_after, MayStep}
-use Rattle.lpm_writer.specs.MemorySteps.{Loads, WithSteps, Goes, LoadsUntilStopped, Checks}
-use Rattle.lpm_writer.specs.GroupsMatch.{MayLoadCounters, SameTables, HasNothingDue}
+use Rattle.lpm_writer.specs.TokenCheck.{Loads, LoadsUntilStopped}
+use Rattle.lpm_writer.specs.MemorySteps.{WithSteps, Goes, Checks}
+use Rattle.lpm_writer.specs.GroupsMatch.{MayLoadCounters, SameState, HasNothingDue}
 use Rattle.std.specs.Prelude.{◌&&◌, Result, Ok, Err, Some}
 use Rattle.lpm_limits.specs.declared.busy.Busy.{Busy}
 
@@ -60,7 +61,7 @@ stops_by t v some lt = elim (eqb_tells v 0) [
 -- the counters of the workers below k were loaded, and the next one may be
 abbrev pub HasLoadedCounters : {M : Type 0} → (M → InitialState → List WriterStep → Type 0) → (M → WriterStep → M → Type 0) → M → ℕ → ℕ → M → Type 0
 HasLoadedCounters did does m token k z = (c : InitialState) (steps : List WriterStep) → did m c steps → MayLoadCounters c steps token
-    → (later : List WriterStep) × did z c later × Loads does k (m, steps) token (z, later)
+    → (later : List WriterStep) × did z c later × Loads (Goes does) k (m, steps) token (z, later)
     × (k < c.workers → (counter : ℕ) → MayStep c later (LoadCounter token k counter))
 
 module _ {M : Type 0} (did : M → InitialState → List WriterStep → Type 0) (does : M → WriterStep → M → Type 0)
@@ -91,7 +92,7 @@ quiet_on w y z a b = record {
   groups = b.groups ∙ a.groups;
 }
 
--- the course is the same but for what is due and for a synchronize that is over
+-- the progress is the same but for what is due and for a synchronize that is over
 pub record IsLike (x z : WriterProgress) : Type 0 where
   pub reclaims : z.reclaims ≡ x.reclaims
   pub taken : z.taken ≡ x.taken
@@ -105,7 +106,7 @@ record Loaded (c : InitialState) (steps later : List WriterStep) : Type 0 where
   like : IsLike (progress_after c steps) (progress_after c later)
 
 module _ {M : Type 0} (does : M → WriterStep → M → Type 0) (c : InitialState) where
-  loaded : (n : ℕ) (x : WithSteps M) (t : ℕ) (z : WithSteps M) → n < c.workers → Loads does n x t z → Loaded c x.1 z.1
+  loaded : (n : ℕ) (x : WithSteps M) (t : ℕ) (z : WithSteps M) → n < c.workers → Loads (Goes does) n x t z → Loaded c x.1 z.1
   loaded zero x t z few h = subst (λ (y : WithSteps M). Loaded c x.1 y.1) (sym h) (record {
     quiet = quiet_same (state_after c x.1);
     token = refl;
@@ -174,7 +175,7 @@ ok_err : (busy : Busy) (r : Result (Unit {0}) Busy) → r ≡ Err busy → r ≡
 ok_err busy r p q = cc
 
 module _ {M : Type 0} (does : M → WriterStep → M → Type 0) (c : InitialState) where
-  all_passed : (n : ℕ) (x : WithSteps M) (t : ℕ) (z : WithSteps M) → n ≡ c.workers → Loads does n x t z → HasPassed c x.1 t z.1
+  all_passed : (n : ℕ) (x : WithSteps M) (t : ℕ) (z : WithSteps M) → n ≡ c.workers → Loads (Goes does) n x t z → HasPassed c x.1 t z.1
   all_passed zero x t z none h = subst (λ (y : WithSteps M). HasPassed c x.1 t y.1) (sym h) (record {
     quiet = quiet_same (state_after c x.1);
     token = refl;
@@ -212,7 +213,7 @@ module _ {M : Type 0} (does : M → WriterStep → M → Type 0) (c : InitialSta
   })
   check_passes x t z (inr h) = all_passed c.workers x t z refl h.1
 
-  stopped : (x : WithSteps M) (t : ℕ) (busy : Busy) (z : WithSteps M) → LoadsUntilStopped does c.workers x t (Err busy) z → HasStopped c x.1 z.1
+  stopped : (x : WithSteps M) (t : ℕ) (busy : Busy) (z : WithSteps M) → LoadsUntilStopped (Goes does) c.workers x t (Err busy) z → HasStopped c x.1 z.1
   stopped x t busy z h =
       let y = h.0 in
       let before = loaded does c busy.worker x t y h.2 h.1 in
@@ -239,10 +240,10 @@ module _ {M : Type 0} (does : M → WriterStep → M → Type 0) (c : InitialSta
   check_stops x t busy z (inr h) = stopped x t busy z h.1
 
   -- all workers let a token pass that is above the greatest that had passed: it is the greatest then
-  pub passed_where_all_pass : (x : WithSteps M) (t : ℕ) (z : WithSteps M) → (state_after c x.1).passed ≤ t → Loads does c.workers x t z → 0 < c.workers → t ≡ (state_after c z.1).passed
+  pub passed_where_all_pass : (x : WithSteps M) (t : ℕ) (z : WithSteps M) → (state_after c x.1).passed ≤ t → Loads (Goes does) c.workers x t z → 0 < c.workers → t ≡ (state_after c z.1).passed
   passed_where_all_pass x t z below h some = last c.workers refl h
     where
-      last : (n : ℕ) → n ≡ c.workers → Loads does n x t z → t ≡ (state_after c z.1).passed
+      last : (n : ℕ) → n ≡ c.workers → Loads (Goes does) n x t z → t ≡ (state_after c z.1).passed
       last zero all h = absurd (omega (arith, all, some))
       last (suc n) all h =
           let end = last_passed does c n t h.1 h.0 z all h.3 h.4 in
@@ -251,5 +252,5 @@ module _ {M : Type 0} (does : M → WriterStep → M → Type 0) (c : InitialSta
           omega (arith, end.0, old)
 
   -- a worker stopped the check: no greater token has passed
-  pub passed_where_one_stops : (x : WithSteps M) (t : ℕ) (busy : Busy) (z : WithSteps M) → LoadsUntilStopped does c.workers x t (Err busy) z → (state_after c z.1).passed ≡ (state_after c x.1).passed
+  pub passed_where_one_stops : (x : WithSteps M) (t : ℕ) (busy : Busy) (z : WithSteps M) → LoadsUntilStopped (Goes does) c.workers x t (Err busy) z → (state_after c z.1).passed ≡ (state_after c x.1).passed
   passed_where_one_stops x t busy z h = (stopped x t busy z h).passed

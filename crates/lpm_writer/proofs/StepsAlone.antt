@@ -23,9 +23,10 @@ use Rattle.lpm_trace.specs.declared.step.WriterStep.TheVariants.{StoreFirst, Sto
 use Rattle.lpm_trace.specs.States.{InitialState, TableState, state_after}
 use Rattle.fib_model.specs.State.{Reclaims, MakesRoom, State}
 use Rattle.lpm_writer.specs.declared.pool.GroupPool.{GroupPool}
-use Rattle.lpm_writer.specs.MemorySteps.{WithSteps, Loads, LoadsUntilStopped, Checks, by_writer, Goes, UnlinksNone, Stores, StoresOverLink, StoresAndCloses, state_of_traced}
-use Rattle.lpm_writer.specs.Take.{Takes, Finds}
-use Rattle.lpm_writer.specs.Steps.{StoreSameWord, since_opened, StoresOnce, IsStore, AreStopped, by_steps_from}
+use Rattle.lpm_writer.specs.TokenCheck.{Loads, LoadsUntilStopped, ChecksToken}
+use Rattle.lpm_writer.specs.MemorySteps.{WithSteps, Checks, by_writer, Goes, UnlinksNone, Stores, StoresOverLink, StoresAndCloses, state_of_traced}
+use Rattle.lpm_writer.specs.TakenGroup.{Takes, Finds}
+use Rattle.lpm_writer.specs.Steps.{StoreSameWord, since_opened, StoresOnce, IsNext, IsStore, AreStopped, by_steps_from}
 use Rattle.lpm_writer.proofs.GivenUp.{Retires}
 use Rattle.lpm_writer.proofs.RunningUpdate.{HasPassedStore, HasPassedStores, stored_by}
 use Rattle.lpm_trace.specs.Writer.{token_after}
@@ -105,13 +106,13 @@ module _ {M : Type 0} (does : M → WriterStep → M → Type 0) (c : InitialSta
   stays : (x z : WithSteps M) → z ≡ x → StoresNothing x.1 z.1
   stays x z e = subst (λ (y : WithSteps M). StoresNothing x.1 y.1) (sym e) (nothing_same x.1)
 
-  loads : (n : ℕ) (x : WithSteps M) (t : ℕ) (z : WithSteps M) → Loads does n x t z → StoresNothing x.1 z.1
+  loads : (n : ℕ) (x : WithSteps M) (t : ℕ) (z : WithSteps M) → Loads (Goes does) n x t z → StoresNothing x.1 z.1
   loads zero x t z h = stays x z h
   loads (suc n) x t z h = nothing_on x.1 h.0.1 z.1 (loads n x t h.0 h.2) (subst (StoresNothing h.0.1) (sym h.4.1) (nothing_loaded h.0.1 t n h.1))
 
-  asks : (workers : ℕ) (x : WithSteps M) (t : ℕ) (r : Result (Unit {0}) Busy) (z : WithSteps M) → LoadsUntilStopped does workers x t r z → StoresNothing x.1 z.1
-  asks workers x t (Ok u) z h = loads workers x t z h
-  asks workers x t (Err busy) z h =
+  until_stopped : (workers : ℕ) (x : WithSteps M) (t : ℕ) (r : Result (Unit {0}) Busy) (z : WithSteps M) → LoadsUntilStopped (Goes does) workers x t r z → StoresNothing x.1 z.1
+  until_stopped workers x t (Ok u) z h = loads workers x t z h
+  until_stopped workers x t (Err busy) z h =
       nothing_on x.1 h.0.1 z.1 (loads busy.worker x t h.0 h.1) (subst (StoresNothing h.0.1) (sym h.5.1) (nothing_loaded h.0.1 t busy.worker busy.counter))
 
   pub after_check : (x : WithSteps M) (t : ℕ) (r : Result (Unit {0}) Busy) (z : WithSteps M) → Checks does c x t r z → StoresNothing x.1 z.1
@@ -182,21 +183,27 @@ is_store w (StoreFirst i x) h = tt
 is_store w (StoreSecond j x) h = tt
 is_store w s h = absurd h
 
+-- a check, where its steps are read another way
+module _ {X Y : Type 0} (goes : X → WriterStep → X → Type 0) (goes_on : Y → WriterStep → Y → Type 0) (f : X → Y)
+    (on : (x : X) (s : WriterStep) (z : X) → goes x s z → goes_on (f x) s (f z)) where
+  loads_on : (n : ℕ) (x z : X) (token : ℕ) → Loads goes n x token z → Loads goes_on n (f x) token (f z)
+  loads_on zero x z token h = ap f h
+  loads_on (suc n) x z token h = (f h.0, h.1, loads_on n x h.0 token h.2, h.3, on h.0 (LoadCounter token n h.1) z h.4)
+
+  until_stopped_on : (workers : ℕ) (x z : X) (token : ℕ) (r : Result (Unit {0}) Busy) → LoadsUntilStopped goes workers x token r z → LoadsUntilStopped goes_on workers (f x) token r (f z)
+  until_stopped_on workers x z token (Ok passed) h = loads_on workers x z token h
+  until_stopped_on workers x z token (Err busy) h = (f h.0, loads_on busy.worker x h.0 token h.1, h.2, h.3, h.4, on h.0 (LoadCounter token busy.worker busy.counter) z h.5)
+
+  checks_on : (workers passed same : ℕ) → same ≡ passed → (x z : X) (token : ℕ) (r : Result (Unit {0}) Busy) → ChecksToken goes workers passed x token r z → ChecksToken goes_on workers same (f x) token r (f z)
+  checks_on workers passed same e x z token r (inl h) = inl (omega (arith, h.0, e), h.1, ap f h.2)
+  checks_on workers passed same e x z token r (inr h) = inr ((λ some. let low = h.0 some in omega (arith, low, e)), until_stopped_on workers x z token r h.1)
+
 module _ (M : Type 0) (does : M → WriterStep → M → Type 0) (c : InitialState) where
   same : (x z : WithSteps M) → z ≡ x → z.1 ≡ x.1
   same x z e = ap (λ (t : WithSteps M). t.1) e
 
-  loads_alone : (n : ℕ) (x z : WithSteps M) (token : ℕ) → Loads does n x token z → by_steps.Loads n x.1 token z.1
-  loads_alone zero x z token h = same x z h
-  loads_alone (suc n) x z token h = (h.0.1, h.1, loads_alone n x h.0 token h.2, h.3, h.4.1)
-
-  asks_alone : (workers : ℕ) (x z : WithSteps M) (token : ℕ) (r : Result (Unit {0}) Busy) → LoadsUntilStopped does workers x token r z → by_steps.LoadsUntilStopped workers x.1 token r z.1
-  asks_alone workers x z token (Ok passed) h = loads_alone workers x z token h
-  asks_alone workers x z token (Err busy) h = (h.0.1, loads_alone busy.worker x h.0 token h.1, h.2, h.3, h.4, h.5.1)
-
   pub checks_alone : (x z : WithSteps M) (token : ℕ) (r : Result (Unit {0}) Busy) → Checks does c x token r z → by_steps.Checks c.workers x.1 token r z.1
-  checks_alone x z token r (inl h) = inl (omega (arith, h.0, passed_is c x.1), h.1, same x z h.2)
-  checks_alone x z token r (inr h) = inr ((λ some. let low = h.0 some in omega (arith, low, passed_is c x.1)), asks_alone c.workers x z token r h.1)
+  checks_alone x z token r h = checks_on (Goes does) IsNext (λ y. y.1) (λ x s z h. h.1) c.workers _ _ (sym (passed_is c x.1)) x z token r h
 
   stores : (n : ℕ) (x z : WithSteps M) → Stores does c n x z → HasStored x.1 z.1
   stores zero x z h = ([], All-nil IsStore, same x z h)
@@ -226,13 +233,13 @@ module _ (M : Type 0) (does : M → WriterStep → M → Type 0) (c : InitialSta
     same_fixed : (x z : WithSteps M) → z ≡ x → fixed z.0 ≡ fixed x.0
     same_fixed x z e = ap (λ (t : WithSteps M). fixed t.0) e
 
-    loads_fixed : (n : ℕ) (x z : WithSteps M) (token : ℕ) → Loads does n x token z → fixed z.0 ≡ fixed x.0
+    loads_fixed : (n : ℕ) (x z : WithSteps M) (token : ℕ) → Loads (Goes does) n x token z → fixed z.0 ≡ fixed x.0
     loads_fixed zero x z token h = same_fixed x z h
     loads_fixed (suc n) x z token h = goes_fixed h.0 z (LoadCounter token n h.1) h.4 ∙ loads_fixed n x h.0 token h.2
 
-    asks_fixed : (workers : ℕ) (x z : WithSteps M) (token : ℕ) (r : Result (Unit {0}) Busy) → LoadsUntilStopped does workers x token r z → fixed z.0 ≡ fixed x.0
-    asks_fixed workers x z token (Ok passed) h = loads_fixed workers x z token h
-    asks_fixed workers x z token (Err busy) h = goes_fixed h.0 z (LoadCounter token busy.worker busy.counter) h.5 ∙ loads_fixed busy.worker x h.0 token h.1
+    until_stopped_fixed : (workers : ℕ) (x z : WithSteps M) (token : ℕ) (r : Result (Unit {0}) Busy) → LoadsUntilStopped (Goes does) workers x token r z → fixed z.0 ≡ fixed x.0
+    until_stopped_fixed workers x z token (Ok passed) h = loads_fixed workers x z token h
+    until_stopped_fixed workers x z token (Err busy) h = goes_fixed h.0 z (LoadCounter token busy.worker busy.counter) h.5 ∙ loads_fixed busy.worker x h.0 token h.1
 
     pub checks_fixed : (x z : WithSteps M) (token : ℕ) (r : Result (Unit {0}) Busy) → Checks does c x token r z → fixed z.0 ≡ fixed x.0
     checks_fixed x z token r (inl h) = same_fixed x z h.2
@@ -314,17 +321,8 @@ abbrev AnyMemory : Unit {0} → WriterStep → Unit {0} → Type 0
 AnyMemory m s z = Unit {0}
 
 module _ (c : InitialState) where
-  loads_of : (n : ℕ) (x z : List WriterStep) (token : ℕ) → by_steps.Loads n x token z → Loads AnyMemory n (tt, x) token (tt, z)
-  loads_of zero x z token h = ap (λ l. (tt, l)) h
-  loads_of (suc n) x z token h = ((tt, h.0), h.1, loads_of n x h.0 token h.2, h.3, (tt, h.4))
-
-  asks_of : (workers : ℕ) (x z : List WriterStep) (token : ℕ) (r : Result (Unit {0}) Busy) → by_steps.LoadsUntilStopped workers x token r z → LoadsUntilStopped AnyMemory workers (tt, x) token r (tt, z)
-  asks_of workers x z token (Ok passed) h = loads_of workers x z token h
-  asks_of workers x z token (Err busy) h = ((tt, h.0), loads_of busy.worker x h.0 token h.1, h.2, h.3, h.4, (tt, h.5))
-
   checks_of : (x z : List WriterStep) (token : ℕ) (r : Result (Unit {0}) Busy) → by_steps.Checks c.workers x token r z → Checks AnyMemory c (tt, x) token r (tt, z)
-  checks_of x z token r (inl h) = inl (omega (arith, h.0, passed_is c x), h.1, ap (λ l. (tt, l)) h.2)
-  checks_of x z token r (inr h) = inr ((λ some. let low = h.0 some in omega (arith, low, passed_is c x)), asks_of c.workers x z token r h.1)
+  checks_of x z token r h = checks_on IsNext (Goes AnyMemory) (λ l. (tt, l)) (λ x s z h. (tt, h)) c.workers _ _ (passed_is c x) x z token r h
 
   pub steps_passed : (x : List WriterStep) (token : ℕ) (z : List WriterStep) → by_steps.Checks c.workers x token (Ok tt) z → HasPassed c x token z
   steps_passed x token z h = check_passes AnyMemory c (tt, x) token (tt, z) (checks_of x z token (Ok tt) h)

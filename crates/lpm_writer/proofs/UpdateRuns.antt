@@ -70,7 +70,7 @@ pub record IsRunning {M : Type 0} (does : M → WriterStep → M → Type 0) (f 
   pub history : (state_after c later).history ≡ (state_after c steps).history
   pub unlinked : HasUnlinkedSome does c config (m, steps) old (z, later) new
 
--- whatever the opening and the steps were, an update that may begin has come to v
+-- whatever the initial state and the steps were, an update that may begin has come to v
 abbrev pub Runs : {M : Type 0} → AsMemory M → ℕ → ℕ → Config → M → GroupPool → Plan → M → GroupPool → Plan → Type 0
 Runs mem f s config first old u z new v = (c : InitialState) (steps : List WriterStep) → mem.says.did first c steps → MayMake f s c steps u old
     → (later : List WriterStep) × mem.says.did z c later × IsRunning mem.says.does f s config c first steps old u z later new v

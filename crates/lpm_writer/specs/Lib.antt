@@ -1,4 +1,5 @@
 pub mod Limbo
+pub mod TokenCheck
 pub mod MemorySteps
 pub mod GroupsMatch
 pub mod Steps

@@ -1,13 +1,14 @@
 -- This layer's own: a memory together with the writer's steps that led to it, and the parts of a change as
 -- what they lead to; by the steps alone they stand in `Steps`.
-use Rattle.std.specs.Prelude.{ℕ, zero, suc, ◌≡◌, ◌<◌, ◌≤◌, ◌⊎◌, true, List, ◌∷◌, Some, None, Result, Ok, Err}
+use Rattle.std.specs.Prelude.{ℕ, zero, suc, ◌≡◌, List, ◌∷◌, Some, None, Result}
 use Rattle.lpm_cells.specs.Words.{group_in}
 use Rattle.lpm_limits.specs.declared.busy.Busy.{Busy}
 use Rattle.lpm_trace.specs.declared.step.RuleChange.{RuleChange}
 use Rattle.lpm_trace.specs.declared.step.WriterStep.{WriterStep}
-use Rattle.lpm_trace.specs.declared.step.WriterStep.TheVariants.{StoreFirst, StoreSecond, BeginUpdate, EndUpdate, BumpToken, LoadCounter}
-use Rattle.lpm_trace.specs.States.{InitialState, TableState, state_after, lets_pass, first_entry}
+use Rattle.lpm_trace.specs.declared.step.WriterStep.TheVariants.{StoreFirst, StoreSecond, BeginUpdate, EndUpdate, BumpToken}
+use Rattle.lpm_trace.specs.States.{InitialState, TableState, state_after, first_entry}
 use Rattle.fib_model.specs.State.{Transitions}
+use Rattle.lpm_writer.specs.TokenCheck.{ChecksToken}
 
 -- a memory, and the writer's steps that led to it, the newest first
 abbrev pub WithSteps : Type 0 → Type 0
@@ -22,29 +23,11 @@ abbrev pub Goes : {M : Type 0} → (M → WriterStep → M → Type 0) → WithS
     → Type 0
 Goes does x s z = does x.0 s z.0 × (z.1 ≡ s ∷ x.1)
 
--- the counters of the workers below n were loaded, in a check of the token, and each let it pass
-abbrev pub Loads : {M : Type 0} → (M → WriterStep → M → Type 0) → ℕ → WithSteps M → ℕ → WithSteps M
-    → Type 0
-Loads does zero x token z = z ≡ x
-Loads {M} does (suc n) x token z = (y : WithSteps M) × (counter : ℕ) × Loads does n x token y
-    × (lets_pass token counter ≡ true) × Goes does y (LoadCounter token n counter) z
-
--- the workers' counters were loaded one after another: each let the token pass, or the first that didn't
--- stopped the check
-abbrev pub LoadsUntilStopped : {M : Type 0} → (M → WriterStep → M → Type 0) → ℕ → WithSteps M → ℕ
-    → Result (Unit {0}) Busy → WithSteps M → Type 0
-LoadsUntilStopped does workers x token (Ok passed) z = Loads does workers x token z
-LoadsUntilStopped {M} does workers x token (Err busy) z = (y : WithSteps M) × Loads does busy.worker x token y
-    × (busy.worker < workers) × (0 < busy.counter) × (busy.counter < token)
-    × Goes does y (LoadCounter token busy.worker busy.counter) z
-
--- a check of a token: one that isn't above the greatest that has passed passes without a load, and for
--- any other the counters are loaded
+-- a check of a token, where the memory is x, which leads to z
 abbrev pub Checks : {M : Type 0} → (M → WriterStep → M → Type 0) → InitialState → WithSteps M → ℕ
     → Result (Unit {0}) Busy → WithSteps M → Type 0
 Checks does c x token result z =
-    ((token ≤ (state_of_traced c x).passed) × (result ≡ Ok tt) × (z ≡ x))
-    ⊎ ((0 < c.workers → (state_of_traced c x).passed < token) × LoadsUntilStopped does c.workers x token result z)
+    ChecksToken (Goes does) c.workers (state_of_traced c x).passed x token result z
 
 -- the step stores a word, and not over one that links a group
 abbrev pub UnlinksNone : TableState → WriterStep → Type 0

@@ -24,8 +24,8 @@ use Rattle.lpm_writer.specs.GroupToFill.{HasWidths, IsTakenBy, group_to_fill}
 
 -- A whole update, from the step that opens it to the one that closes it (this project's).
 
--- no update runs, nothing is due of the writer, no address has turned, and in none of the updates that
--- are done was a word stored twice
+-- no update runs, nothing is due of the writer, no address has changed its answer, and in none of the
+-- updates that are done was a word stored twice
 pub record IsBetween (c : InitialState) (steps : List WriterStep) : Type 0 where
   pub idle : HasNothingDue c steps
   pub even : (state_after c steps).sequence % 2 ≡ 0

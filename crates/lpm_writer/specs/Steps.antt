@@ -1,36 +1,23 @@
 -- Meaning: the parts of a change, by the writer's steps alone, of which the newest stands first (DPDK
--- Programmer's Guide, "RCU Library": a check loads one reader's counter after another, and a synchronize checks
--- the token that it starts until each reader has let it pass; the order within an update is this project's).
-use Rattle.std.specs.Prelude.{ℕ, zero, suc, ◌≡◌, ◌<◌, ◌≤◌, ◌⊎◌, true, List, ◌∷◌, ◌++◌, Result, Ok, Err, ⊤, []}
+-- Programmer's Guide, "RCU Library": a synchronize checks the token that it starts until each reader has let it
+-- pass; the order within an update is this project's).
+use Rattle.std.specs.Prelude.{ℕ, zero, suc, ◌≡◌, List, ◌∷◌, ◌++◌, Result, Ok, Err, ⊤, []}
 use Rattle.std.specs.List.{All}
 use Rattle.lpm_limits.specs.declared.busy.Busy.{Busy}
 use Rattle.lpm_trace.specs.declared.step.RuleChange.{RuleChange}
 use Rattle.lpm_trace.specs.declared.step.WriterStep.{WriterStep}
-use Rattle.lpm_trace.specs.declared.step.WriterStep.TheVariants.{StoreFirst, StoreSecond, BeginUpdate, EndUpdate, BumpToken, LoadCounter}
-use Rattle.lpm_trace.specs.States.{lets_pass}
+use Rattle.lpm_trace.specs.declared.step.WriterStep.TheVariants.{StoreFirst, StoreSecond, BeginUpdate, EndUpdate, BumpToken}
 use Rattle.lpm_trace.specs.Writer.{token_after, passed_after}
 use Rattle.fib_model.specs.State.{Transitions}
+use Rattle.lpm_writer.specs.TokenCheck.{ChecksToken}
 
--- the counters of the workers below n were loaded, in a check of the token, and each let it pass
-abbrev pub Loads : ℕ → List WriterStep → ℕ → List WriterStep → Type 0
-Loads zero x token z = z ≡ x
-Loads (suc n) x token z = (y : List WriterStep) × (counter : ℕ) × Loads n x token y
-    × (lets_pass token counter ≡ true) × (z ≡ LoadCounter token n counter ∷ y)
+-- one more step: z are the steps x, and s after them
+abbrev pub IsNext : List WriterStep → WriterStep → List WriterStep → Type 0
+IsNext x s z = z ≡ s ∷ x
 
--- the workers' counters were loaded one after another: each let the token pass, or the first that didn't
--- stopped the check
-abbrev pub LoadsUntilStopped : ℕ → List WriterStep → ℕ → Result (Unit {0}) Busy → List WriterStep → Type 0
-LoadsUntilStopped workers x token (Ok passed) z = Loads workers x token z
-LoadsUntilStopped workers x token (Err busy) z = (y : List WriterStep) × Loads busy.worker x token y
-    × (busy.worker < workers) × (0 < busy.counter) × (busy.counter < token)
-    × (z ≡ LoadCounter token busy.worker busy.counter ∷ y)
-
--- a check of a token: one that isn't above the greatest that has passed passes without a load, and for
--- any other the counters are loaded
+-- a check of a token by the steps x, which leads to z
 abbrev pub Checks : ℕ → List WriterStep → ℕ → Result (Unit {0}) Busy → List WriterStep → Type 0
-Checks workers x token result z =
-    ((token ≤ passed_after workers x) × (result ≡ Ok tt) × (z ≡ x))
-    ⊎ ((0 < workers → passed_after workers x < token) × LoadsUntilStopped workers x token result z)
+Checks workers x token result z = ChecksToken IsNext workers (passed_after workers x) x token result z
 
 -- the step stores a word
 abbrev pub IsStore : WriterStep → Type 0

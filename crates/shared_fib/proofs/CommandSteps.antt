@@ -19,7 +19,8 @@ use Rattle.fib_model.proofs.Relations.{lacks_or_not}
 use Rattle.lpm_trace.specs.declared.step.WriterStep.{WriterStep}
 use Rattle.lpm_trace.specs.declared.step.WriterStep.TheVariants.{StoreFirst, BeginUpdate, EndUpdate, BumpToken, LoadCounter}
 use Rattle.lpm_trace.specs.Writer.{token_after}
-use Rattle.lpm_writer.specs.Steps.{AreStopped, LoadsUntilStopped, Checks, Loads, Synchronizes, by_steps_from}
+use Rattle.lpm_writer.specs.Steps.{AreStopped, Checks, IsNext, Synchronizes, by_steps_from}
+use Rattle.lpm_writer.specs.TokenCheck.{Loads, LoadsUntilStopped}
 use Rattle.shared_words.specs.declared.view.View.{View}
 use Rattle.shared_words.specs.Rule.{IsLater}
 use Rattle.shared_words.proofs.Deeds.{later_trans}
@@ -49,14 +50,14 @@ later_same xs ys same = ([], same)
 
 -- ---- the parts of a change
 
-loads : (n : ℕ) (x : List WriterStep) (token : ℕ) (z : List WriterStep) → Loads n x token z → IsLater x z
+loads : (n : ℕ) (x : List WriterStep) (token : ℕ) (z : List WriterStep) → Loads IsNext n x token z → IsLater x z
 loads zero x token z same = later_same x z same
 loads (suc n) x token z h = later_trans x h.0 z (loads n x token h.0 h.2) (LoadCounter token n h.1 ∷ [], h.4)
 
-asks : (workers : ℕ) (x : List WriterStep) (token : ℕ) (r : Result (Unit {0}) Busy) (z : List WriterStep)
-    → LoadsUntilStopped workers x token r z → IsLater x z
-asks workers x token (Ok passed) z h = loads workers x token z h
-asks workers x token (Err busy) z h =
+until_stopped : (workers : ℕ) (x : List WriterStep) (token : ℕ) (r : Result (Unit {0}) Busy) (z : List WriterStep)
+    → LoadsUntilStopped IsNext workers x token r z → IsLater x z
+until_stopped workers x token (Ok passed) z h = loads workers x token z h
+until_stopped workers x token (Err busy) z h =
     later_trans x h.0 z (loads busy.worker x token h.0 h.1) (LoadCounter token busy.worker busy.counter ∷ [], h.5)
 
 checks : (workers : ℕ) (x : List WriterStep) (token : ℕ) (r : Result (Unit {0}) Busy) (z : List WriterStep)

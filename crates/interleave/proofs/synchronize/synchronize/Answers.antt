@@ -8,7 +8,8 @@ use Rattle.lpm_writer.proofs.StepsAlone.{checks_alone, checks_fixed}
 use Rattle.interleave.specs.View.{WorldView}
 use Rattle.interleave.specs.World.{WorldDid, scripts_and_schedule}
 use Rattle.interleave.specs.WorldLaws.{world_shows}
-use Rattle.interleave.specs.Runs.{Waits, state_by_steps, next_token}
+use Rattle.interleave.specs.Runs.{Waits, next_token}
+use Rattle.lpm_writer.specs.Rest.{state_of}
 use Rattle.interleave.proofs.Ends.{ScriptsAndSchedule, does_in, stays}
 use Rattle.interleave.proofs.Synchronizations.{waited_none, waited_more}
 use Rattle.interleave.proofs.synchronize.synchronize.Goals as goal
@@ -61,7 +62,7 @@ returns-in-Ok-clause-replies g c = λ initial steps did rests.
           stopped = so_far.4;
           passes = checks_alone WorldView (does_in f s) initial (y, so_far.0) (z, now.0) (next_token initial steps) (Ok tt) check;
         },
-        ap (λ (l : ControlState f s). state_by_steps l.rules now.0 l.pool l.versions) (c.in-Ok.ensures.same ∙ ap (λ (l : ControlState f s). record l { pool = record l.pool { passed = c.check_synchronize.new.control.pool.passed } }) same),
+        ap (λ (l : ControlState f s). state_of l.rules.rules now.0 l.pool l.versions) (c.in-Ok.ensures.same ∙ ap (λ (l : ControlState f s). record l { pool = record l.pool { passed = c.check_synchronize.new.control.pool.passed } }) same),
       ),
     )
 

@@ -3,7 +3,8 @@ use Rattle.std.proofs.lemmas.Bool.{cases_lt}
 use Rattle.lpm_trace.specs.declared.step.WriterStep.TheVariants.{LoadCounter}
 use Rattle.std.specs.Prelude.{Err}
 use Rattle.lpm_limits.specs.declared.busy.Busy.{Busy}
-use Rattle.lpm_writer.specs.MemorySteps.{LoadsUntilStopped, Loads}
+use Rattle.lpm_writer.specs.TokenCheck.{Loads, LoadsUntilStopped}
+use Rattle.lpm_writer.specs.MemorySteps.{Goes}
 use Rattle.lpm_writer.proofs.Checks.{counters_loaded_none, counters_loaded_more, passed_where_all_pass, passed_where_one_stops, passes_by}
 use Rattle.lpm_writer.proofs.grace.check_token.Goals as goal
 
@@ -38,7 +39,7 @@ returns-then-holds-clause-checks g c = λ s steps did known may.
     let next = LoadCounter c.args.token c.loop-worker.worker c.load_counter-counter.result in
     let later = next ∷ so_far.0 in
     let busy : Busy = record { worker = c.loop-worker.worker; counter = c.load_counter-counter.result } in
-    let stops : LoadsUntilStopped g.M.Memory.does s.workers (c.args.memory.now, steps) c.args.token (Err busy) (c.load_counter-counter.new.self, later) = ((c.loop-worker.memory, so_far.0), so_far.2, below, held.0, held.1, (does, refl)) in (
+    let stops : LoadsUntilStopped (Goes g.M.Memory.does) s.workers (c.args.memory.now, steps) c.args.token (Err busy) (c.load_counter-counter.new.self, later) = ((c.loop-worker.memory, so_far.0), so_far.2, below, held.0, held.1, (does, refl)) in (
       later,
       g.met.M.Memory.follows c.loop-worker.memory next c.load_counter-counter.new.self s so_far.0 does so_far.1 (so_far.3 below c.load_counter-counter.result),
       inr ((λ some. let k = known some in omega (arith, k, more)), stops),
@@ -66,7 +67,7 @@ returns-clause-checks g c = λ s steps did known may.
     let so_far = c.loop-worker.invariant.loaded s steps did (may more) in
     let old = (g.met.M.Memory.shows c.args.memory.now s steps did).2 in
     let all : c.loop-worker.worker ≡ s.workers = omega (arith, old) in
-    let loads = subst (λ n. Loads g.M.Memory.does n (c.args.memory.now, steps) c.args.token (c.loop-worker.memory, so_far.0)) all so_far.2 in (
+    let loads = subst (λ n. Loads (Goes g.M.Memory.does) n (c.args.memory.now, steps) c.args.token (c.loop-worker.memory, so_far.0)) all so_far.2 in (
       so_far.0,
       so_far.1,
       inr ((λ some. let k = known some in omega (arith, k, more)), loads),
