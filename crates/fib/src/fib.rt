@@ -1,12 +1,12 @@
 //! The table.
 
-ghost use Rattle.std.specs.Prelude.{Err, IsOk, MatchResult, Result, ◌≡◌, ◌+◌, ◌^◌, ◌<◌, ◌≤◌, ◌↔◌, ◌⊎◌, IsTrue, IsNone, IfOk, IfErr, IfSome, length};
+ghost use Rattle.std.specs.Prelude.{Err, IsOk, MatchResult, Result, ◌≡◌, ◌+◌, ◌^◌, ◌<◌, ◌≤◌, ◌↔◌, IsTrue, IsNone, IfOk, IfErr, IfSome, length};
 ghost use Rattle.std.specs.FinMap as map;
 ghost use Rattle.lpm_bits.specs.Widths.{IsShape};
 ghost use Rattle.lpm_rules.specs.Longest.{IsLongestHop, IsMatch};
 ghost use Rattle.lpm_rules.specs.RuleMap.{AreInOrder, rules_of, IsNextRule};
 ghost use Rattle.lpm_limits.specs.Limits.{IsConfig};
-ghost use Rattle.fib_model.specs.Outcomes.{groups_in_use, Adds, Deletes, Flushes, Frees};
+ghost use Rattle.fib_model.specs.Outcomes.{AreSufficient, AreTooSmall, groups_in_use, Adds, Deletes, Flushes, Frees};
 ghost use Rattle.fib_model.specs.Counters.{by_counters, counter_transitions};
 ghost use Rattle.fib.specs.Fib.{IsSound, initial_fib, initial_fib_at, initial_fib_with, table_of, state_after_report};
 ghost use Rattle.fib_model.specs.declared.orders.ReaderReport.TheVariants as report;
@@ -78,13 +78,10 @@ impl<const FIRST: u32, const SECOND: u32> Fib<FIRST, SECOND> {
         requires shape { IsShape FIRST SECOND }
         ensures opened { IfOk result (λ o. IfSome o (λ fib.
             fib ≡ initial_fib_with config (rules_of rules.now))) }
-        ensures rules_fit { IfOk result (λ o. IfSome o (λ _.
-            map.len (rules_of rules.now) ≤ config.rules)) }
-        ensures groups_fit { IfOk result (λ o. IfSome o (λ _.
-            groups_in_use FIRST SECOND (rules_of rules.now) ≤ config.groups)) }
+        ensures suffice { IfOk result (λ o. IfSome o (λ _.
+            AreSufficient FIRST SECOND config (rules_of rules.now))) }
         ensures none { IfOk result (λ o. IsNone o
-            → (config.rules < map.len (rules_of rules.now))
-            ⊎ (config.groups < groups_in_use FIRST SECOND (rules_of rules.now))) }
+            → AreTooSmall FIRST SECOND config (rules_of rules.now)) }
         ensures limits { IfOk result (λ _. IsConfig config) }
         ensures bad_config { IfErr result
             (λ error. (error ≡ OpenError.BadConfig) ↔ (¬ IsConfig config)) }
@@ -112,13 +109,10 @@ impl<const FIRST: u32, const SECOND: u32> Fib<FIRST, SECOND> {
         requires sorted { AreInOrder rules.now }
         ensures opened { IfOk result (λ o. IfSome o (λ fib.
             fib ≡ initial_fib_with config (rules_of rules.now))) }
-        ensures rules_fit { IfOk result (λ o. IfSome o (λ _.
-            map.len (rules_of rules.now) ≤ config.rules)) }
-        ensures groups_fit { IfOk result (λ o. IfSome o (λ _.
-            groups_in_use FIRST SECOND (rules_of rules.now) ≤ config.groups)) }
+        ensures suffice { IfOk result (λ o. IfSome o (λ _.
+            AreSufficient FIRST SECOND config (rules_of rules.now))) }
         ensures none { IfOk result (λ o. IsNone o
-            → (config.rules < map.len (rules_of rules.now))
-            ⊎ (config.groups < groups_in_use FIRST SECOND (rules_of rules.now))) }
+            → AreTooSmall FIRST SECOND config (rules_of rules.now)) }
         ensures limits { IfOk result (λ _. IsConfig config) }
         ensures bad_config { IfErr result
             (λ error. (error ≡ OpenError.BadConfig) ↔ (¬ IsConfig config)) }
@@ -150,13 +144,10 @@ impl<const FIRST: u32, const SECOND: u32> Fib<FIRST, SECOND> {
         requires count { versions ≤ 2 ^ 61 }
         ensures opened { IfOk result (λ o. IfSome o (λ fib.
             fib ≡ initial_fib_at config rules.entry.rules versions)) }
-        ensures rules_fit { IfOk result (λ o. IfSome o (λ _.
-            map.len rules.entry.rules ≤ config.rules)) }
-        ensures groups_fit { IfOk result (λ o. IfSome o (λ _.
-            groups_in_use FIRST SECOND rules.entry.rules ≤ config.groups)) }
+        ensures suffice { IfOk result (λ o. IfSome o (λ _.
+            AreSufficient FIRST SECOND config rules.entry.rules)) }
         ensures none { IfOk result (λ o. IsNone o
-            → (config.rules < map.len rules.entry.rules)
-            ⊎ (config.groups < groups_in_use FIRST SECOND rules.entry.rules)) }
+            → AreTooSmall FIRST SECOND config rules.entry.rules) }
         ensures limits { IfOk result (λ _. IsConfig config) }
         ensures bad_config { IfErr result
             (λ error. (error ≡ OpenError.BadConfig) ↔ (¬ IsConfig config)) }

@@ -1,7 +1,6 @@
 //! The parts of a table that opens with rules.
 
-ghost use Rattle.std.specs.Prelude.{◌≡◌, ℕ, ◌-◌, ◌*◌, ◌^◌, ◌<◌, ◌≤◌, ◌⊎◌, [], ◌++◌, IfOk, IfSome, IsNone, length, map, replicate};
-ghost use Rattle.std.specs.FinMap as map;
+ghost use Rattle.std.specs.Prelude.{◌≡◌, ℕ, ◌-◌, ◌*◌, ◌^◌, ◌≤◌, [], ◌++◌, IfOk, IfSome, IsNone, length, map, replicate};
 ghost use Rattle.lpm_bits.specs.Widths.{IsShape};
 ghost use Rattle.lpm_cells.specs.declared.entry.Entry.TheVariants.{Miss};
 ghost use Rattle.lpm_cells.specs.Words.{word_of, IsWords};
@@ -10,7 +9,7 @@ ghost use Rattle.lpm_limits.specs.Limits.{IsConfig};
 ghost use Rattle.lpm_rules.specs.RuleMap.{RuleMap, AreInOrder, rules_of};
 ghost use Rattle.lpm_update.specs.Represents.{Represents};
 ghost use Rattle.lpm_sweep.specs.SweepWords.{AreNumbered, words_of};
-ghost use Rattle.fib_model.specs.Outcomes.{groups_in_use};
+ghost use Rattle.fib_model.specs.Outcomes.{AreSufficient, AreTooSmall};
 ghost use Rattle.fib_model.specs.Counters.{initial_by_counters};
 ghost use Rattle.fib.specs.Fib.{IsSound, table_of};
 
@@ -165,13 +164,10 @@ pub(crate) fn parts_of<const FIRST: u32, const SECOND: u32>(
     ensures config { IfOk result (λ o. IfSome o (λ t. t.0.config ≡ config)) }
     ensures table { IfOk result (λ o. IfSome o (λ t. table_of t.0 t.1
         ≡ record (initial_by_counters config) { rules = rules_of rules.now })) }
-    ensures rules_fit { IfOk result (λ o. IfSome o (λ _.
-        map.len (rules_of rules.now) ≤ config.rules)) }
-    ensures groups_fit { IfOk result (λ o. IfSome o (λ _.
-        groups_in_use FIRST SECOND (rules_of rules.now) ≤ config.groups)) }
+    ensures suffice { IfOk result (λ o. IfSome o (λ _.
+        AreSufficient FIRST SECOND config (rules_of rules.now))) }
     ensures none { IfOk result (λ o. IsNone o
-        → (config.rules < map.len (rules_of rules.now))
-        ⊎ (config.groups < groups_in_use FIRST SECOND (rules_of rules.now))) }
+        → AreTooSmall FIRST SECOND config (rules_of rules.now)) }
 {
     if count_rules(rules) > config.rules {
         return Ok(None);
@@ -204,13 +200,10 @@ pub(crate) fn parts_at<const FIRST: u32, const SECOND: u32>(
     ensures config { IfOk result (λ o. IfSome o (λ t. t.0.config ≡ config)) }
     ensures table { IfOk result (λ o. IfSome o (λ t. table_of t.0 t.1
         ≡ record (initial_by_counters config) { rules = rules.entry.rules; updates_begun = versions })) }
-    ensures rules_fit { IfOk result (λ o. IfSome o (λ _.
-        map.len rules.entry.rules ≤ config.rules)) }
-    ensures groups_fit { IfOk result (λ o. IfSome o (λ _.
-        groups_in_use FIRST SECOND rules.entry.rules ≤ config.groups)) }
+    ensures suffice { IfOk result (λ o. IfSome o (λ _.
+        AreSufficient FIRST SECOND config rules.entry.rules)) }
     ensures none { IfOk result (λ o. IsNone o
-        → (config.rules < map.len rules.entry.rules)
-        ⊎ (config.groups < groups_in_use FIRST SECOND rules.entry.rules)) }
+        → AreTooSmall FIRST SECOND config rules.entry.rules) }
 {
     if rules.len() > config.rules {
         return Ok(None);

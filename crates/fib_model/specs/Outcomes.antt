@@ -1,7 +1,7 @@
 -- Meaning: what comes of each command, and what it leaves (DPDK Programmer's Guide, "LPM
 -- Library", "Addition", "Deletion" and the reclaiming of tbl8 groups by RCU; the order of the
 -- checks is this project's).
-use Rattle.std.specs.Prelude.{ℕ, ◌≡◌, ◌≢◌, ◌+◌, ◌-◌, ◌<◌, ◌≤◌, List, [], ◌∷◌, length, slice_get, Option, Some, None, Ok, Err, Result, IsSomeAnd, MatchOption}
+use Rattle.std.specs.Prelude.{ℕ, ◌≡◌, ◌≢◌, ◌+◌, ◌-◌, ◌<◌, ◌≤◌, ◌⊎◌, List, [], ◌∷◌, length, slice_get, Option, Some, None, Ok, Err, Result, IsSomeAnd, MatchOption}
 use Rattle.std.specs.FinMap.{get, insert, remove, len, empty}
 use Rattle.std.specs.FinSet as set
 use Rattle.lpm_bits.specs.Network.{Network}
@@ -26,6 +26,14 @@ use Rattle.fib_model.specs.State.{State, Transitions, ReaderModel, IsExhausted, 
 -- the number of deep blocks, each of which has a group
 abbrev pub groups_in_use : ℕ → ℕ → RuleMap → ℕ
 groups_in_use first second R = set.len (deep_blocks first second R)
+
+-- the limits suffice for a table with these rules
+abbrev pub AreSufficient : ℕ → ℕ → Config → RuleMap → Type 0
+AreSufficient first second c R = (len R ≤ c.rules) × (groups_in_use first second R ≤ c.groups)
+
+-- they don't
+abbrev pub AreTooSmall : ℕ → ℕ → Config → RuleMap → Type 0
+AreTooSmall first second c R = (c.rules < len R) ⊎ (c.groups < groups_in_use first second R)
 
 -- the rule is new, longer than FIRST bits, its block has no group, and no group is free
 pub record LacksGroup {X : Type 0} (first second : ℕ) (c : Config) (s : State X) (p : Network)

@@ -14,8 +14,7 @@ use Rattle.lpm_limits.specs.declared.busy.Busy.{Busy}
 use Rattle.lpm_limits.specs.declared.config.Config.{Config}
 use Rattle.lpm_limits.specs.declared.refusal.Refusal.{Refusal}
 use Rattle.lpm_limits.specs.declared.refusal.Refusal.TheVariants.{TooManyRules, Exhausted, NoGroups, Memory}
-use Rattle.lpm_rules.specs.RuleMap.{RuleMap, RuleList, LacksRoomFor, network_cmp}
-use Rattle.lpm_rules.specs.Changes.{rules_after}
+use Rattle.lpm_rules.specs.RuleMap.{RuleMap, RuleList, LacksRoomFor, network_cmp, with_rules}
 use Rattle.lpm_rules.specs.Deep.{IsDeepBlock, block_of, deep_blocks}
 use Rattle.lpm_rules.specs.declared.Put.{Put}
 use Rattle.lpm_rules.specs.declared.Put.TheVariants.{Added, Replaced, Unchanged}
@@ -23,15 +22,15 @@ use Rattle.lpm_rules.proofs.Views.{insert_same, size_added, networks_total}
 use Rattle.lpm_rules.proofs.Deep.{has_deep_blocks, put_brings_block, deep_blocks_empty}
 use Rattle.qsbr.specs.Counters.{Registry}
 use Rattle.fib_model.specs.State.{State, HasTokens}
-use Rattle.fib_model.specs.Outcomes.{Adds, LacksGroup, HoldsFront, groups_in_use}
+use Rattle.fib_model.specs.Outcomes.{Adds, LacksGroup, HoldsFront, groups_in_use, AreSufficient}
 use Rattle.fib_model.specs.Counters.{counter_transitions, initial_by_counters}
 use Rattle.fib.specs.Fib.{FibState, initial_fib_with}
 use Rattle.route_text.specs.declared.routes.Route.{Route}
 use Rattle.lpm_files.specs.declared.failure.Failure.{Failure}
 use Rattle.lpm_files.specs.declared.failure.Failure.TheVariants as failures
-use Rattle.lpm_commands.specs.Load.{Loads, IsLoaded, IsFirstRefused, EndsLoading, addition_of, rules_of_routes}
-use Rattle.lpm_commands.specs.FilledTable.{Fits, IsFilled, BringsGroup, Refuses}
-use Rattle.lpm_commands.proofs.Texts.{added_rules, added_limbo, added_readers, rules_after-more, take_read, first_refused}
+use Rattle.lpm_commands.specs.Load.{Loads, IsLoaded, IsFirstRefused, EndsLoading, rule_of, rules_of_routes}
+use Rattle.lpm_commands.specs.FilledTable.{IsFilled, BringsGroup, Refuses}
+use Rattle.lpm_commands.proofs.Texts.{added_rules, added_limbo, added_readers, with_routes-more, take_read, first_refused}
 
 -- ---- rules, and how many changes made them
 
@@ -53,7 +52,7 @@ made_by m [] = m
 made_by m (r ∷ routes) = made_by (with_route m r) routes
 
 -- the rules are those of these routes
-made_rules : (m : Made) (routes : List Route) → (made_by m routes).0 ≡ rules_after m.0 (map addition_of routes)
+made_rules : (m : Made) (routes : List Route) → (made_by m routes).0 ≡ with_rules m.0 (map rule_of routes)
 made_rules m [] = refl
 made_rules m (r ∷ routes) = made_rules (with_route m r) routes
 
@@ -148,7 +147,7 @@ record Reaches (c : Config) (s : State Registry) (routes : List Route) (z : Stat
   made : made_of z ≡ made_by (made_of s) routes
   readers : z.readers ≡ s.readers
   limbo : z.limbo ≡ s.limbo
-  fits : Fits c z.rules
+  fits : AreSufficient 24 8 c z.rules
   tokens : s.updates_begun < z.updates_begun → (s.readers.token + c.groups ≤ 2 ^ 62) × (z.updates_begun ≤ 2 ^ 61)
 
 -- the same hop changes nothing, another one does
@@ -174,16 +173,13 @@ size_known R p h some = rules.len-insert networks_total R p h ∙ ap (λ (t : Bo
 
 module _ (c : Config) where
   -- rules that fit do so still where one gets another hop
-  fits_known : (R : RuleMap) (p : Network) (h : ℕ) → IsSome (get R p) → Fits c R → Fits c (insert R p h)
+  fits_known : (R : RuleMap) (p : Network) (h : ℕ) → IsSome (get R p) → AreSufficient 24 8 c R → AreSufficient 24 8 c (insert R p h)
   fits_known R p h some fits =
       let size = size_known R p h some in
       let groups = known_group R p h some in
-      let most = fits.rules in
-      let full = fits.groups in
-      record {
-        rules = omega (arith, size, most);
-        groups = omega (arith, groups, full);
-      }
+      let most = fits.0 in
+      let full = fits.1 in
+      (omega (arith, size, most), omega (arith, groups, full))
 
   -- and where one is new, and there was a group for it if it needs one
   groups_new : (s : State Registry) (p : Network) (h : ℕ) → s.limbo ≡ [] → get s.rules p ≡ None → ¬ LacksGroup 24 8 c s p → in_use s.rules ≤ c.groups → in_use (insert s.rules p h) ≤ c.groups
@@ -203,13 +199,10 @@ module _ (c : Config) where
         ]
   ]
 
-  fits_new : (s : State Registry) (p : Network) (h : ℕ) → s.limbo ≡ [] → get s.rules p ≡ None → len s.rules < c.rules → ¬ LacksGroup 24 8 c s p → Fits c s.rules → Fits c (insert s.rules p h)
+  fits_new : (s : State Registry) (p : Network) (h : ℕ) → s.limbo ≡ [] → get s.rules p ≡ None → len s.rules < c.rules → ¬ LacksGroup 24 8 c s p → AreSufficient 24 8 c s.rules → AreSufficient 24 8 c (insert s.rules p h)
   fits_new s p h none absent room has fits =
       let size = size_added s.rules p h absent in
-      record {
-        rules = omega (arith, size, room);
-        groups = groups_new s p h none absent has fits.groups;
-      }
+      (omega (arith, size, room), groups_new s p h none absent has fits.1)
 
   -- ---- and back
 
@@ -244,7 +237,7 @@ module _ (c : Config) where
   has_group : (s z : State Registry) (r : Route) (routes : List Route) → s.limbo ≡ [] → Reaches c (changed_to s r) routes z → ¬ LacksGroup 24 8 c s r.prefix
   has_group s z r routes none rest lacks =
       let later = (grown (changed_to s r) z routes rest).groups in
-      let most = rest.fits.groups in
+      let most = rest.fits.1 in
       let one = new_group s.rules r.prefix r.hop lacks.long lacks.shallow in
       let full = lacks.none_free in
       let zero_limbo = ap length none in
@@ -254,7 +247,7 @@ module _ (c : Config) where
   adds_changed : (s z : State Registry) (r : Route) (routes : List Route) (o : Option ℕ) → get s.rules r.prefix ≡ o → (o ≡ Some r.hop → ⊥) → s.limbo ≡ [] → Reaches c s (r ∷ routes) z → Reaches c (changed_to s r) routes z → (put : Put) × Adds counter_transitions 24 8 c s r.prefix r.hop (Ok put) (changed_to s r)
   adds_changed s z r routes None absent other none whole rest =
       let later = (grown (changed_to s r) z routes rest).rules in
-      let most = rest.fits.rules in
+      let most = rest.fits.0 in
       let size = size_added s.rules r.prefix r.hop absent in (
         Added,
         (
@@ -329,7 +322,7 @@ filled_more c s z p h Replaced filled adds =
     record {
       readers = added_readers c s z p h Replaced filled.limbo adds ∙ filled.readers;
       limbo = added_limbo c s z p h Replaced filled.limbo adds;
-      fits = subst (Fits c) (sym (added_rules c s z p h Replaced adds)) (fits_known c s.rules p h (some_of (get s.rules p) (λ old. old ≢ h) adds.0) filled.fits);
+      fits = subst (AreSufficient 24 8 c) (sym (added_rules c s z p h Replaced adds)) (fits_known c s.rules p h (some_of (get s.rules p) (λ old. old ≢ h) adds.0) filled.fits);
       tokens = λ some. omega (arith, has, first);
     }
 filled_more c s z p h Added filled adds =
@@ -339,7 +332,7 @@ filled_more c s z p h Added filled adds =
     record {
       readers = added_readers c s z p h Added filled.limbo adds ∙ filled.readers;
       limbo = added_limbo c s z p h Added filled.limbo adds;
-      fits = subst (Fits c) (sym (added_rules c s z p h Added adds)) (fits_new c s p h filled.limbo adds.0.0 adds.0.2 has_group filled.fits);
+      fits = subst (AreSufficient 24 8 c) (sym (added_rules c s z p h Added adds)) (fits_new c s p h filled.limbo adds.0.0 adds.0.2 has_group filled.fits);
       tokens = λ some. omega (arith, has, first);
     }
 
@@ -373,7 +366,7 @@ made_table c routes =
     record { rules = m.0; readers = (initial_by_counters c).readers; limbo = []; updates_begun = m.1 }
 
 -- routes whose rules fit, with tokens for them, make that table
-loaded_fitting : (c : Config) (routes : List Route) → length routes ≤ 2 ^ 61 → Fits c (rules_of_routes routes) → (0 < len (rules_of_routes routes) → c.first_token + c.groups ≤ 2 ^ 62) → IsLoaded c routes (made_table c routes)
+loaded_fitting : (c : Config) (routes : List Route) → length routes ≤ 2 ^ 61 → AreSufficient 24 8 c (rules_of_routes routes) → (0 < len (rules_of_routes routes) → c.first_token + c.groups ≤ 2 ^ 62) → IsLoaded c routes (made_table c routes)
 loaded_fitting c routes few fits lasts =
     let made = made_rules (empty, 0) routes in
     let most : (made_by (empty, 0) routes).1 ≤ 0 + length routes = changes_at_most (empty, 0) routes in
@@ -381,7 +374,7 @@ loaded_fitting c routes few fits lasts =
       made = refl;
       readers = refl;
       limbo = refl;
-      fits = subst (Fits c) (sym made) fits;
+      fits = subst (AreSufficient 24 8 c) (sym made) fits;
       tokens = λ more. (lasts (subst (λ (R : RuleMap). 0 < len R) made (has_rules routes more)), omega (arith, most, few));
     } in
     record {
@@ -392,15 +385,15 @@ loaded_fitting c routes few fits lasts =
     }
 
 -- by as many changes at most
-loads_fitting : (c : Config) (routes : List Route) → length routes ≤ 2 ^ 61 → Fits c (rules_of_routes routes) → (0 < len (rules_of_routes routes) → c.first_token + c.groups ≤ 2 ^ 62) → (t : State Registry) × IsLoaded c routes t × (t.updates_begun ≤ length routes)
+loads_fitting : (c : Config) (routes : List Route) → length routes ≤ 2 ^ 61 → AreSufficient 24 8 c (rules_of_routes routes) → (0 < len (rules_of_routes routes) → c.first_token + c.groups ≤ 2 ^ 62) → (t : State Registry) × IsLoaded c routes t × (t.updates_begun ≤ length routes)
 loads_fitting c routes few fits lasts =
     let most : (made_by (empty, 0) routes).1 ≤ 0 + length routes = changes_at_most (empty, 0) routes in
     (made_table c routes, loaded_fitting c routes few fits lasts, omega (arith, most))
 
 -- told by the rules alone
-pub loads_by_rules : (c : Config) (routes : List Route) (R : RuleMap) → length routes ≤ 2 ^ 61 → R ≡ rules_of_routes routes → Fits c R → (0 < len R → c.first_token + c.groups ≤ 2 ^ 62) → (t : State Registry) × IsLoaded c routes t
+pub loads_by_rules : (c : Config) (routes : List Route) (R : RuleMap) → length routes ≤ 2 ^ 61 → R ≡ rules_of_routes routes → AreSufficient 24 8 c R → (0 < len R → c.first_token + c.groups ≤ 2 ^ 62) → (t : State Registry) × IsLoaded c routes t
 loads_by_rules c routes R few same fits lasts =
-    let loaded = loads_fitting c routes few (subst (Fits c) same fits) (subst (λ (Q : RuleMap). 0 < len Q → c.first_token + c.groups ≤ 2 ^ 62) same lasts) in
+    let loaded = loads_fitting c routes few (subst (AreSufficient 24 8 c) same fits) (subst (λ (Q : RuleMap). 0 < len Q → c.first_token + c.groups ≤ 2 ^ 62) same lasts) in
     (loaded.0, loaded.1)
 
 -- so do routes whose rules a table has
@@ -466,9 +459,9 @@ rules_read routes i r within read = ap rules_of_routes (take_read routes i r wit
 pub refused_at : (c : Config) (routes : List Route) (i : ℕ) (r : Route) (l : RuleList) (refusal : Refusal) → i < length routes → r ≡ get_or routes i r → length routes ≤ 2 ^ 61 → l.rules ≡ rules_of_routes (take i routes) → l.max ≡ c.rules → len l.rules ≤ l.max → in_use l.rules ≤ c.groups → (0 < length routes → c.first_token + c.groups ≤ 2 ^ 62) → refusal ≢ Memory → Refuses c.groups l r.prefix refusal → IsFirstRefused c routes r.line refusal
 refused_at c routes i r l refusal within read few same max most groups lasts reason is =
     let before : length (take i routes) ≡ i = length-take-le i routes (omega (arith, within)) in
-    let fits : Fits c l.rules = record { rules = omega (arith, most, max); groups = groups } in
+    let fits : AreSufficient 24 8 c l.rules = (omega (arith, most, max), groups) in
     let have = lasts (omega (arith, within)) in
-    let loaded = loads_fitting c (take i routes) (omega (arith, before, within, few)) (subst (Fits c) same fits) (λ some. have) in
+    let loaded = loads_fitting c (take i routes) (omega (arith, before, within, few)) (subst (AreSufficient 24 8 c) same fits) (λ some. have) in
     let t = loaded.0 in
     let first = ap (λ (x : Registry). x.token) loaded.1.readers in
     let changes = loaded.2 in
@@ -505,10 +498,10 @@ lasts_for [] P lasts some = let none = no_rules in absurd (omega (arith, none, s
 lasts_for (r ∷ routes) P lasts some = lasts (omega arith)
 
 -- the table of routes, by its rules and the number of changes
-pub loaded_as : (c : Config) (routes : List Route) (R : RuleMap) (n : ℕ) → length routes ≤ 2 ^ 61 → R ≡ rules_of_routes routes → n ≡ changes_of routes → Fits c R → (0 < length routes → c.first_token + c.groups ≤ 2 ^ 62)
+pub loaded_as : (c : Config) (routes : List Route) (R : RuleMap) (n : ℕ) → length routes ≤ 2 ^ 61 → R ≡ rules_of_routes routes → n ≡ changes_of routes → AreSufficient 24 8 c R → (0 < length routes → c.first_token + c.groups ≤ 2 ^ 62)
     → IsLoaded c routes (record (initial_by_counters c) { rules = R; updates_begun = n })
 loaded_as c routes R n few same count fits lasts =
-    let loaded = loaded_fitting c routes few (subst (Fits c) same fits) (lasts_for routes (c.first_token + c.groups ≤ 2 ^ 62) lasts) in
+    let loaded = loaded_fitting c routes few (subst (AreSufficient 24 8 c) same fits) (lasts_for routes (c.first_token + c.groups ≤ 2 ^ 62) lasts) in
     subst (λ (Q : RuleMap). IsLoaded c routes (record (initial_by_counters c) { rules = Q; updates_begun = n })) (made_rules (empty, 0) routes ∙ sym same)
     (subst (λ k. IsLoaded c routes (record (initial_by_counters c) { rules = (made_by (empty, 0) routes).0; updates_begun = k })) (sym count) loaded)
 
@@ -540,11 +533,11 @@ ends_longer c file routes n failure ends =
 -- ---- a table that opens with a list of rules
 
 -- it is filled where the tokens last for its rules
-pub opened_filled : (c : Config) (R : RuleMap) (o : Option FibState) → IfSome o (λ (f : FibState). f ≡ initial_fib_with c R) → IfSome o (λ (f : FibState). len R ≤ c.rules) → IfSome o (λ (f : FibState). in_use R ≤ c.groups) → (0 < len R → c.first_token + c.groups ≤ 2 ^ 62) → IfSome o (λ (f : FibState). IsFilled c f.table)
-opened_filled c R None is rules groups lasts = tt
-opened_filled c R (Some f) is rules groups lasts = subst (λ (g : FibState). IsFilled c g.table) (sym is) (record {
+pub opened_filled : (c : Config) (R : RuleMap) (o : Option FibState) → IfSome o (λ (f : FibState). f ≡ initial_fib_with c R) → IfSome o (λ (f : FibState). AreSufficient 24 8 c R) → (0 < len R → c.first_token + c.groups ≤ 2 ^ 62) → IfSome o (λ (f : FibState). IsFilled c f.table)
+opened_filled c R None is fits lasts = tt
+opened_filled c R (Some f) is fits lasts = subst (λ (g : FibState). IsFilled c g.table) (sym is) (record {
   readers = refl;
   limbo = refl;
-  fits = record { rules = rules; groups = groups };
+  fits = fits;
   tokens = lasts;
 })

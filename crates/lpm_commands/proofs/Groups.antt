@@ -8,8 +8,7 @@ use Rattle.lpm_bits.specs.Network.{Network, IsNetwork}
 use Rattle.lpm_limits.specs.declared.config.Config.{Config}
 use Rattle.lpm_limits.specs.declared.refusal.Refusal.{Refusal}
 use Rattle.lpm_limits.specs.declared.refusal.Refusal.TheVariants.{TooManyRules, Exhausted, NoGroups, Memory}
-use Rattle.lpm_rules.specs.RuleMap.{RuleMap, network_cmp, AllUpTo, AreInOrder, place, prefix_at, rules_of}
-use Rattle.lpm_rules.specs.Changes.{rules_after}
+use Rattle.lpm_rules.specs.RuleMap.{RuleMap, network_cmp, AllUpTo, AreInOrder, place, prefix_at, rules_of, with_rules}
 use Rattle.lpm_rules.specs.Deep.{block_of, IsDeepBlock}
 use Rattle.lpm_rules.specs.declared.Put.{Put}
 use Rattle.lpm_rules.specs.declared.Put.TheVariants.{Added, Replaced, Unchanged}
@@ -20,7 +19,7 @@ use Rattle.fib_model.specs.Outcomes.{Adds, LacksGroup, groups_in_use}
 use Rattle.fib_model.specs.Counters.{counter_transitions, initial_by_counters}
 use Rattle.route_text.specs.declared.routes.Route.{Route}
 use Rattle.lpm_files.specs.declared.failure.Failure.{Failure}
-use Rattle.lpm_commands.specs.Load.{Loads, addition_of, rules_of_routes, IsLoaded, IsFirstRefused, EndsLoading}
+use Rattle.lpm_commands.specs.Load.{Loads, rule_of, rules_of_routes, IsLoaded, IsFirstRefused, EndsLoading}
 use Rattle.lpm_commands.specs.FilledTable.{is_long, long_routes, IsEnough, BringsGroup}
 use Rattle.lpm_commands.proofs.FilledTable.{grouped, put_groups}
 use Rattle.lpm_commands.proofs.Texts.{added_limbo, added_readers}
@@ -52,7 +51,7 @@ long_first r routes =
     let all : long_routes (r ∷ routes) ≡ 0 + cond (is_long r) 1 0 + long_routes routes = sum_by-append (λ (x : Route). cond (is_long x) 1 0) (r ∷ []) routes in
     omega (arith, all)
 
-all_more : (R : RuleMap) (routes : List Route) → groups_in_use 24 8 (rules_after R (map addition_of routes)) ≤ groups_in_use 24 8 R + long_routes routes
+all_more : (R : RuleMap) (routes : List Route) → groups_in_use 24 8 (with_rules R (map rule_of routes)) ≤ groups_in_use 24 8 R + long_routes routes
 all_more R [] = omega arith
 all_more R (r ∷ routes) =
     let rest = all_more (insert R r.prefix r.hop) routes in

@@ -7,25 +7,16 @@ use Rattle.std.specs.Ordering.{eq_by_cmp}
 use Rattle.std.specs.FinMap.{get, insert, empty, get-empty, get-insert, same_map}
 use Rattle.lpm_bits.specs.Network.{Network}
 use Rattle.lpm_rules.specs.RuleMap.{RuleMap, network_cmp, with_rules, rules_of}
-use Rattle.lpm_rules.specs.Changes.{rules_after}
 use Rattle.lpm_rules.specs.declared.Rule.{Rule}
 use Rattle.lpm_rules.proofs.Views.{networks_total, exact_networks}
 use Rattle.route_text.specs.declared.routes.Route.{Route}
-use Rattle.lpm_commands.specs.Load.{addition_of, rules_of_routes}
-use Rattle.lpm_commands.specs.FilledTable.{rule_of}
+use Rattle.lpm_commands.specs.Load.{rule_of}
 
--- ---- the rules of routes
+-- ---- the rules of routes, one list after another
 
-rules_by_routes : (R : RuleMap) (routes : List Route) → with_rules R (map rule_of routes) ≡ rules_after R (map addition_of routes)
-rules_by_routes R [] = refl
-rules_by_routes R (r ∷ routes) = rules_by_routes (insert R r.prefix r.hop) routes
-
-pub same_rules : (routes : List Route) → rules_of (map rule_of routes) ≡ rules_of_routes routes
-same_rules routes = rules_by_routes empty routes
-
-pub rules_after-append : (R : RuleMap) (xs ys : List Route) → rules_after R (map addition_of (xs ++ ys)) ≡ rules_after (rules_after R (map addition_of xs)) (map addition_of ys)
-rules_after-append R [] ys = refl
-rules_after-append R (x ∷ xs) ys = rules_after-append (insert R x.prefix x.hop) xs ys
+pub with_routes-append : (R : RuleMap) (xs ys : List Route) → with_rules R (map rule_of (xs ++ ys)) ≡ with_rules (with_rules R (map rule_of xs)) (map rule_of ys)
+with_routes-append R [] ys = refl
+with_routes-append R (x ∷ xs) ys = with_routes-append (insert R x.prefix x.hop) xs ys
 
 -- ---- over other rules
 
@@ -50,14 +41,11 @@ none_first : (R : RuleMap) (q : Network) → first_of (get (empty {K = Network} 
 none_first R q = ap (λ (o : Option ℕ). first_of o (get R q)) (get-empty network_cmp q)
 
 -- lists of the same rules do the same to any rules
-over_same : (R : RuleMap) (xs ys : List (Rule 24 8)) → rules_of xs ≡ rules_of ys → with_rules R xs ≡ with_rules R ys
+pub over_same : (R : RuleMap) (xs ys : List (Rule 24 8)) → rules_of xs ≡ rules_of ys → with_rules R xs ≡ with_rules R ys
 over_same R xs ys same = same_map networks_total exact_networks _ _ (λ p.
     over R empty R xs (λ q. sym (none_first R q)) p
     ∙ (ap (λ (S : RuleMap). first_of (get S p) (get R p)) same
     ∙ sym (over R empty R ys (λ q. sym (none_first R q)) p)))
-
-pub over_routes : (R : RuleMap) (rs : List (Rule 24 8)) (routes : List Route) → rules_of rs ≡ rules_of_routes routes → with_rules R rs ≡ rules_after R (map addition_of routes)
-over_routes R rs routes same = over_same R rs (map rule_of routes) (same ∙ sym (same_rules routes)) ∙ rules_by_routes R routes
 
 -- ---- the last rule of each prefix
 

@@ -10,7 +10,7 @@ use Rattle.route_text.specs.Updates.{AreUpdates}
 use Rattle.lpm_files.specs.declared.failure.Failure.{Failure}
 use Rattle.lpm_files.specs.Inputs.{Reads, IsKnownAs, AreRead}
 use Rattle.lpm_files.specs.Output.{Begins, Writes, WritesBeginning}
-use Rattle.lpm_commands.specs.Load.{IsLoaded, HasTable, EndsLoading, Loads, addition_of, IsFirstRefused, rules_of_routes}
+use Rattle.lpm_commands.specs.Load.{IsLoaded, HasTable, EndsLoading, Loads, rule_of, IsFirstRefused, rules_of_routes}
 use Rattle.lpm_commands.specs.Lookup.{lookup_files, EndsAnswering, EndsLookup, IsAnswered, IsAnswerText, IsLookupText}
 use Rattle.lpm_commands.specs.Apply.{apply_files, EndsApply, EndsTelling, IsToldOver, IsApplyText}
 use Rattle.std.proofs.Math.Seq.{drop-cons}
@@ -20,8 +20,7 @@ use Rattle.std.specs.Prelude.{Result, OnOk, OnErr}
 use Rattle.std.specs.Io.KnownBytes.{Appends}
 use Rattle.lpm_limits.specs.declared.refusal.Refusal.{Refusal}
 use Rattle.lpm_limits.specs.declared.refusal.Refusal.TheVariants.{TooManyRules, Exhausted, NoGroups, Memory}
-use Rattle.lpm_rules.specs.RuleMap.{RuleMap, rules_of}
-use Rattle.lpm_rules.specs.Changes.{rules_after}
+use Rattle.lpm_rules.specs.RuleMap.{RuleMap, rules_of, with_rules}
 use Rattle.lpm_rules.specs.declared.Put.{Put}
 use Rattle.lpm_rules.specs.declared.Put.TheVariants.{Added, Replaced, Unchanged}
 use Rattle.lpm_rules.proofs.Views.{insert_same}
@@ -32,7 +31,6 @@ use Rattle.std.proofs.lemmas.List.Elements.{All-cons, All-nil}
 use Rattle.storm.specs.declared.plan.Plan.{Plan}
 use Rattle.storm.specs.Writer.{IsForWriter, is_for_writer}
 use Rattle.storm.specs.Storm.{limits_of}
-use Rattle.lpm_commands.specs.FilledTable.{rule_of}
 use Rattle.lpm_commands.specs.Storm.{AreLoaded, orders_for_writer, IsPlanOf, IsTextOver, IsStormText, EndsAfter, EndsOver, EndsRunning, EndsStormRun}
 use Rattle.lpm_commands.specs.Report.{report_files, EndsReport, IsReportedOver, IsReportText}
 use Rattle.lpm_commands.proofs.UpdateResults.{updated, last_rules, reported}
@@ -79,9 +77,9 @@ is_begun {T = T} {E = E} IsText r e old new text text' same is begins failed = (
 -- Routes that are added one after another.
 
 -- the rules of one route more
-pub rules_after-more : (R : RuleMap) (xs : List Route) (r : Route) → rules_after R (map addition_of (xs ++ r ∷ [])) ≡ insert (rules_after R (map addition_of xs)) r.prefix r.hop
-rules_after-more R [] r = refl
-rules_after-more R (x ∷ xs) r = rules_after-more (insert R x.prefix x.hop) xs r
+pub with_routes-more : (R : RuleMap) (xs : List Route) (r : Route) → with_rules R (map rule_of (xs ++ r ∷ [])) ≡ insert (with_rules R (map rule_of xs)) r.prefix r.hop
+with_routes-more R [] r = refl
+with_routes-more R (x ∷ xs) r = with_routes-more (insert R x.prefix x.hop) xs r
 
 Loads-append : (c : Config) (s t z : State Registry) (xs : List Route) (r : Route) (put : Put) → Loads c s xs t → Adds counter_transitions 24 8 c t r.prefix r.hop (Ok put) z → Loads c s (xs ++ r ∷ []) z
 Loads-append c s t z [] r put same adds = (put, z, subst (λ (x : State Registry). Adds counter_transitions 24 8 c x r.prefix r.hop (Ok put) z) same adds, refl)

@@ -18,7 +18,8 @@ use Rattle.fib_model.specs.declared.orders.Order.{Order}
 use Rattle.audit.specs.declared.report.TableCounts.{TableCounts}
 use Rattle.lpm_commands.specs.Load.{Loads, IsLoaded}
 use Rattle.lpm_commands.specs.Apply.{loading_of, ComesOut, IsUpdated}
-use Rattle.lpm_commands.specs.Report.{IsCountOf, IsReportOf}
+use Rattle.storm.specs.Storm.{IsCountOf}
+use Rattle.lpm_commands.specs.Report.{IsReportOf}
 
 -- the additions of the routes are a log
 loads_run : (c : Config) (log : Log 24 8) (s z : State Registry) (routes : List Route) → Runs by_counters 24 8 c (initial_by_counters c) log s → Loads c s routes z → (loaded : List Put) × (length loaded ≡ length routes) × Runs by_counters 24 8 c (initial_by_counters c) (log_after log (map loading_of routes) (map outcomes.Put loaded)) z
@@ -53,7 +54,7 @@ pub last_rules : (c : Config) (routes : List Route) (list : List (Order 24 8)) (
 last_rules c routes list came log z state updated agrees = sym agrees.rules ∙ (rules_are_last_version 24 8 c log state updated.runs).0
 
 -- what the table counts is what is to be reported
-pub reported : (c : Config) (routes : List Route) (list : List (Order 24 8)) (came : List Outcome) (log : Log 24 8) (fib : FibState) (state : State (List Event)) (r : TableCounts) → IsUpdated c routes list came log state → Agrees c fib.table state → fib.config ≡ c → IsCountOf fib r → IsReportOf c log state r
+pub reported : (c : Config) (routes : List Route) (list : List (Order 24 8)) (came : List Outcome) (log : Log 24 8) (fib : FibState) (state : State (List Event)) (r : TableCounts) → IsUpdated c routes list came log state → Agrees c fib.table state → fib.config ≡ c → IsCountOf 24 8 fib.table fib.config.groups fib.table.readers.token r → IsReportOf c log state r
 reported c routes list came log fib state r updated agrees config counts =
     let last = last_rules c routes list came log fib.table state updated agrees in
     let law = rules_are_last_version 24 8 c log state updated.runs in

@@ -1,15 +1,12 @@
 -- Meaning: the table that a list of routes makes, and which route it refuses (DPDK Programmer's
 -- Guide, "LPM Library", "Addition": a rule for a prefix that has one takes its place).
 use Rattle.std.specs.Prelude.{ℕ, ◌≡◌, ◌≢◌, ⊤, List, [], ◌∷◌, ◌++◌, Option, Ok, Err, map}
-use Rattle.std.specs.FinMap.{empty}
 use Rattle.lpm_limits.specs.declared.config.Config.{Config}
 use Rattle.lpm_limits.specs.declared.refusal.Refusal.{Refusal}
 use Rattle.lpm_limits.specs.declared.refusal.Refusal.TheVariants.{Memory}
-use Rattle.lpm_rules.specs.RuleMap.{RuleMap}
-use Rattle.lpm_rules.specs.Changes.{rules_after}
-use Rattle.lpm_rules.specs.declared.Change.{Change}
-use Rattle.lpm_rules.specs.declared.Change.TheVariants.{Add}
+use Rattle.lpm_rules.specs.RuleMap.{RuleMap, rules_of}
 use Rattle.lpm_rules.specs.declared.Put.{Put}
+use Rattle.lpm_rules.specs.declared.Rule.{Rule}
 use Rattle.qsbr.specs.Counters.{Registry}
 use Rattle.fib_model.specs.State.{State}
 use Rattle.fib_model.specs.Outcomes.{Adds}
@@ -27,13 +24,13 @@ Loads c s (route ∷ more) z = (put : Put) × (t : State Registry)
     × Adds counter_transitions 24 8 c s route.prefix route.hop (Ok put) t
     × Loads c t more z
 
--- the change that a route asks for
-abbrev pub addition_of : Route → Change 24 8
-addition_of route = Add route.prefix route.hop
+-- the rule that a route puts in
+abbrev pub rule_of : Route → Rule 24 8
+rule_of route = record { prefix = route.prefix; hop = route.hop }
 
 -- the rules of these routes: a prefix that comes twice has the later hop
 abbrev pub rules_of_routes : List Route → RuleMap
-rules_of_routes routes = rules_after empty (map addition_of routes)
+rules_of_routes routes = rules_of (map rule_of routes)
 
 -- the table of these routes; it has their rules, its readers are as they were at first, and no
 -- group is in limbo

@@ -17,21 +17,13 @@ use Rattle.route_text.specs.Files.{AreRoutes}
 use Rattle.route_text.specs.Updates.{AreUpdates}
 use Rattle.audit.specs.declared.report.TableCounts.{TableCounts}
 use Rattle.audit.specs.Report.{report_lines}
+use Rattle.storm.specs.Storm.{IsCountOf}
 use Rattle.lpm_files.specs.declared.failure.Failure.{Failure}
 use Rattle.lpm_files.specs.declared.failure.Failure.TheVariants.{CannotWrite}
 use Rattle.lpm_files.specs.Inputs.{Input, Reads, route_file, update_file}
 use Rattle.lpm_files.specs.Inputs.{AreRead, EndsAtOne}
 use Rattle.lpm_commands.specs.Load.{IsLoaded, EndsTable}
 use Rattle.lpm_commands.specs.Apply.{ComesOut, IsUpdated}
-
--- the report has what the table counts
-pub record IsCountOf (fib : FibState) (r : TableCounts) : Type 0 where
-  pub rules : r.rules ≡ len fib.table.rules
-  pub versions : r.versions ≡ fib.table.updates_begun
-  pub in_use : r.in_use ≡ groups_in_use 24 8 fib.table.rules
-  pub limbo : r.limbo ≡ length fib.table.limbo
-  pub groups : r.in_use + r.limbo + r.free ≡ fib.config.groups
-  pub token : r.token ≡ fib.table.readers.token
 
 -- what is reported after the log: the last version's rules and deep blocks, how many versions and
 -- how many unlinkings that wait, and the token number
@@ -52,7 +44,7 @@ pub record IsReportedAfter (c : Config) (x : State Registry) (orders : List (Ord
   pub report : TableCounts
   pub limits : z.config ≡ c
   pub comes : ComesOut c x orders came z.table
-  pub counts : IsCountOf z report
+  pub counts : IsCountOf 24 8 z.table z.config.groups z.table.readers.token report
   pub written : text ≡ report_lines report
 
 -- the routes make a table of these limits, none is refused, and the text is the report after the

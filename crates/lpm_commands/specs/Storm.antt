@@ -21,8 +21,7 @@ use Rattle.storm.specs.Writer.{is_for_writer}
 use Rattle.lpm_files.specs.declared.failure.Failure.{Failure}
 use Rattle.lpm_files.specs.declared.failure.Failure.TheVariants as failures
 use Rattle.lpm_files.specs.Inputs.{Reads, AreRead, EndsAtOne}
-use Rattle.lpm_commands.specs.Load.{EndsLoading, IsLoaded}
-use Rattle.lpm_commands.specs.FilledTable.{rule_of}
+use Rattle.lpm_commands.specs.Load.{EndsLoading, IsLoaded, rule_of}
 use Rattle.lpm_commands.specs.Apply.{apply_files}
 
 -- the orders for the writer: all but the reports of workers, since a worker of a storm reports by itself

@@ -4,10 +4,10 @@ ghost use Rattle.std.specs.Prelude.{◌≡◌, ◌≢◌, ◌+◌, ◌^◌, ◌<
 ghost use Rattle.std.specs.FinMap.{get, len};
 ghost use Rattle.lpm_limits.specs.Limits.{IsConfig};
 ghost use Rattle.lpm_rules.specs.RuleMap.{with_rule};
-ghost use Rattle.fib_model.specs.Outcomes.{groups_in_use};
+ghost use Rattle.fib_model.specs.Outcomes.{groups_in_use, AreSufficient};
 ghost use Rattle.fib_model.specs.Counters.{initial_by_counters};
 ghost use Rattle.lpm_commands.specs.Load.{EndsLoading, IsLoaded};
-ghost use Rattle.lpm_commands.specs.FilledTable.{BringsGroup, Fits, Refuses};
+ghost use Rattle.lpm_commands.specs.FilledTable.{BringsGroup, Refuses};
 
 use lpm_files::Failure;
 use lpm_limits::{Config, Refusal};
@@ -38,7 +38,7 @@ pub fn made_of<'a>(
     ensures max { IfOk result (λ m. m.rules.max ≡ config.rules) }
     ensures loaded { IfOk result (λ m. IsLoaded config routes.now
         (record (initial_by_counters config) { rules = m.rules.rules; updates_begun = m.versions })) }
-    ensures fits { IfOk result (λ m. Fits config m.rules.rules) }
+    ensures fits { IfOk result (λ m. AreSufficient 24 8 config m.rules.rules) }
     ensures versions { IfOk result (λ m. m.versions ≤ length routes.now) }
     ensures failure { IfErr result (EndsLoading config path.entry.now routes.now) }
 {
@@ -77,7 +77,7 @@ fn made_with_tokens<'a>(
     ensures max { IfOk result (λ m. m.rules.max ≡ config.rules) }
     ensures loaded { IfOk result (λ m. IsLoaded config routes.now
         (record (initial_by_counters config) { rules = m.rules.rules; updates_begun = m.versions })) }
-    ensures fits { IfOk result (λ m. Fits config m.rules.rules) }
+    ensures fits { IfOk result (λ m. AreSufficient 24 8 config m.rules.rules) }
     ensures versions { IfOk result (λ m. m.versions ≤ length routes.now) }
     ensures failure { IfErr result (EndsLoading config path.entry.now routes.now) }
 {

@@ -3,7 +3,8 @@ ghost use Rattle.std.specs.Prelude.{◌≡◌, ◌≢◌, IfOk, IfErr, OnOk, IsE
 ghost use Rattle.lpm_limits.specs.Limits.{IsConfig};
 ghost use Rattle.lpm_files.specs.Output.{Writes, WritesBeginning};
 ghost use Rattle.lpm_commands.specs.Load.{EndsLoading};
-ghost use Rattle.lpm_commands.specs.Report.{IsReportText, IsReportedAfter, IsReportedOver, IsCountOf, EndsReport};
+ghost use Rattle.lpm_commands.specs.Report.{IsReportText, IsReportedAfter, IsReportedOver, EndsReport};
+ghost use Rattle.storm.specs.Storm.{IsCountOf};
 
 use crate::tables::load;
 use crate::updates::update;
@@ -101,7 +102,8 @@ fn text_on_table<'a>(
 
 // What the table counts.
 fn report_of(table: &Fib<24, 8>) -> TableCounts
-    ensures { IsCountOf table.now result }
+    ensures { IsCountOf 24 8 table.now.table table.now.config.groups table.now.table.readers.token
+        result }
 {
     let counts = table.counts();
     TableCounts {

@@ -2,8 +2,8 @@
 ghost use Rattle.std.specs.Prelude.{◌≡◌, ◌^◌, ◌<◌, ◌≤◌, ◌↔◌, IsTrue, IfOk, length, map, take};
 ghost use Rattle.lpm_rules.specs.RuleMap.{AreInOrder, prefix_at, rules_of};
 ghost use Rattle.fib_model.specs.Outcomes.{groups_in_use};
-ghost use Rattle.lpm_commands.specs.Load.{rules_of_routes};
-ghost use Rattle.lpm_commands.specs.FilledTable.{BringsGroup, rule_of};
+ghost use Rattle.lpm_commands.specs.Load.{rule_of, rules_of_routes};
+ghost use Rattle.lpm_commands.specs.FilledTable.{BringsGroup};
 
 use lpm_rules::Rule;
 use lpm_sweep::in_order;

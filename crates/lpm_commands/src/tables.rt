@@ -3,13 +3,13 @@ ghost use Rattle.std.specs.Prelude.{◌≡◌, ◌+◌, ◌^◌, ◌<◌, ◌≤
 ghost use Rattle.std.specs.FinMap.{len};
 ghost use Rattle.lpm_limits.specs.Limits.{IsConfig, IsIn, groups_range};
 ghost use Rattle.lpm_rules.specs.RuleMap.{RuleMap, AreInOrder, rules_of, with_rules};
-ghost use Rattle.lpm_rules.specs.Changes.{rules_after};
 ghost use Rattle.qsbr.specs.Counters.{Registry};
 ghost use Rattle.fib_model.specs.State.{State};
+ghost use Rattle.fib_model.specs.Outcomes.{AreSufficient};
 ghost use Rattle.shared_fib.specs.Passes.{IsFullBench};
 ghost use Rattle.shared_fib.specs.RunningTable.{initial_writer};
-ghost use Rattle.lpm_commands.specs.Load.{IsLoaded, EndsLoading, addition_of, rules_of_routes};
-ghost use Rattle.lpm_commands.specs.FilledTable.{IsEnough, long_routes, Fits, IsFilled};
+ghost use Rattle.lpm_commands.specs.Load.{IsLoaded, EndsLoading, rule_of, rules_of_routes};
+ghost use Rattle.lpm_commands.specs.FilledTable.{IsEnough, long_routes, IsFilled};
 
 use crate::refusals::{Made, first_refusal, made_of, refused};
 use crate::sorted_rules::{count_groups, rules_in_order};
@@ -260,7 +260,7 @@ fn fitting_rules(alloc: Global, routes: &[Route], config: Config) -> Option<Vec<
     requires few { length routes.now ≤ 2 ^ 26 }
     ensures ordered { IfSome result (λ v. AreInOrder v.items) }
     ensures same { IfSome result (λ v. rules_of v.items ≡ rules_of_routes routes.now) }
-    ensures fits { IfSome result (λ v. Fits config (rules_of v.items)) }
+    ensures fits { IfSome result (λ v. AreSufficient 24 8 config (rules_of v.items)) }
     ensures tokens { IfSome result (λ v. 0 < len (rules_of v.items)
         → config.first_token + config.groups ≤ 2 ^ 62) }
 {
@@ -282,7 +282,7 @@ fn add_pieces(alloc: Global, table: &mut Fib<24, 8>, routes: &[Route]) -> Result
     requires filled { IsFilled table.old.config table.old.table }
     ensures config { table.new.config ≡ table.old.config }
     ensures rules { OnOk result (table.new.table.rules
-        ≡ rules_after table.old.table.rules (map addition_of routes.now)) }
+        ≡ with_rules table.old.table.rules (map rule_of routes.now)) }
     ensures filled { OnOk result (IsFilled table.old.config table.new.table) }
 {
     let mut rest = routes;
@@ -300,7 +300,7 @@ fn add_piece(alloc: Global, table: &mut Fib<24, 8>, routes: &[Route]) -> Result<
     requires filled { IsFilled table.old.config table.old.table }
     ensures config { table.new.config ≡ table.old.config }
     ensures rules { OnOk result (table.new.table.rules
-        ≡ rules_after table.old.table.rules (map addition_of routes.now)) }
+        ≡ with_rules table.old.table.rules (map rule_of routes.now)) }
     ensures filled { OnOk result (IsFilled table.old.config table.new.table) }
 {
     let rules = rules_in_order(alloc, routes)?;

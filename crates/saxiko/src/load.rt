@@ -1,10 +1,9 @@
 //! Running tables that open with the rules of a list.
 
-ghost use Rattle.std.specs.Prelude.{◌≡◌, ◌↔◌, ◌<◌, ◌≤◌, ◌⊎◌, IfOk, IfErr, IfSome, IsNone};
-ghost use Rattle.std.specs.FinMap as map;
+ghost use Rattle.std.specs.Prelude.{◌≡◌, ◌↔◌, IfOk, IfErr, IfSome, IsNone};
 ghost use Rattle.lpm_limits.specs.Limits.{IsConfig};
 ghost use Rattle.lpm_rules.specs.RuleMap.{rules_of};
-ghost use Rattle.fib_model.specs.Outcomes.{groups_in_use};
+ghost use Rattle.fib_model.specs.Outcomes.{AreSufficient, AreTooSmall};
 ghost use Rattle.shared_fib.specs.Passes.{IsFullBench};
 ghost use Rattle.shared_fib.specs.RunningTable.{initial_writer};
 
@@ -38,13 +37,10 @@ impl Owner {
             owner.writer.identity.initial.workers ≡ config.workers)) }
         ensures bench { IfOk result (λ o. IfSome o (λ owner.
             IsFullBench owner.writer.identity owner.bench)) }
-        ensures rules_fit { IfOk result (λ o. IfSome o (λ _.
-            map.len (rules_of rules.now) ≤ config.rules)) }
-        ensures groups_fit { IfOk result (λ o. IfSome o (λ _.
-            groups_in_use 24 8 (rules_of rules.now) ≤ config.groups)) }
+        ensures suffice { IfOk result (λ o. IfSome o (λ _.
+            AreSufficient 24 8 config (rules_of rules.now))) }
         ensures none { IfOk result (λ o. IsNone o
-            → (config.rules < map.len (rules_of rules.now))
-            ⊎ (config.groups < groups_in_use 24 8 (rules_of rules.now))) }
+            → AreTooSmall 24 8 config (rules_of rules.now)) }
         ensures limits { IfOk result (λ _. IsConfig config) }
         ensures bad_config { IfErr result
             (λ error. (error ≡ OpenError.BadConfig) ↔ (¬ IsConfig config)) }

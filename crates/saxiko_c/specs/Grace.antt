@@ -4,7 +4,7 @@
 use Rattle.std.specs.Prelude.{ℤ, ◌≡◌, ◌+◌, ◌^◌, ◌<◌, ◌≤◌, ◌⊎◌, ◌∷◌, All, true, false, Option, Some, None, OnErr, OnOk, Result, Ok, Err}
 use Rattle.lpm_limits.specs.declared.busy.Busy.{Busy}
 use Rattle.lpm_trace.specs.declared.step.WriterStep.TheVariants.{BumpToken}
-use Rattle.lpm_trace.specs.Laws.{IsChecked as WasChecked}
+use Rattle.lpm_trace.specs.Laws.{IsChecked}
 use Rattle.lpm_writer.specs.Steps.{Checks}
 use Rattle.shared_fib.specs.RunningTable.{passed_of, steps_of, token_of}
 use Rattle.saxiko_c.specs.RunningTable.{StagedOwner, Names}
@@ -53,13 +53,13 @@ stopped_by (Ok passed) = None
 stopped_by (Err busy) = Some busy
 
 -- a check was made, and the grace period is over where it has passed
-pub record IsChecked (o : OwnerState) (r : Result (Unit {0}) Busy) (p : OwnerState) : Type 0 where
+pub record HasChecked (o : StagedOwner) (r : Result (Unit {0}) Busy) (p : StagedOwner) : Type 0 where
   pub checks : Checks o.writer.identity.initial.workers (steps_of o.writer)
       (token_of o.writer) r (steps_of p.writer)
   pub over : OnOk r (p.waits ≡ false)
   pub lasts : OnErr r (p.waits ≡ true)
   pub token : token_of p.writer ≡ token_of o.writer
-  pub checked : OnOk r (WasChecked o.writer.identity.initial.workers
+  pub checked : OnOk r (IsChecked o.writer.identity.initial.workers
       o.writer.identity.initial.token (steps_of p.writer) (token_of o.writer))
   pub queued : OnOk r (0 < o.writer.config.workers
       → All (λ token. token ≤ passed_of p.writer) p.writer.table.limbo)
@@ -70,5 +70,5 @@ pub record IsChecked (o : OwnerState) (r : Result (Unit {0}) Busy) (p : OwnerSta
 abbrev pub ChecksOnce : SaxikoHeld → SaxikoHeld → StagedOwner → ℤ → StagedOwner → Type 0
 ChecksOnce before after o status p =
     ((o.waits ≡ false) × (status ≡ not_permitted) × (after ≡ before) × (p ≡ o))
-    ⊎ ((o.waits ≡ true) × (r : Result (Unit {0}) Busy) × IsChecked o r p
+    ⊎ ((o.waits ≡ true) × (r : Result (Unit {0}) Busy) × HasChecked o r p
     × Names (stopped_by r) before status after)

@@ -1,20 +1,17 @@
 -- Meaning: tables that open with the routes of a list (DPDK Programmer's Guide, "LPM Library", "Addition": a rule
 -- for a prefix that has one takes its place).
-use Rattle.std.specs.Prelude.{ℕ, ℤ, ◌≡◌, ◌<◌, ◌≤◌, ◌^◌, ◌⊎◌, All, List, Option, IsSomeAnd, length, map, slice_get, take, false}
-use Rattle.std.specs.FinMap.{len}
+use Rattle.std.specs.Prelude.{ℕ, ℤ, ◌≡◌, ◌<◌, ◌^◌, ◌⊎◌, All, List, Option, IsSomeAnd, length, map, slice_get, take}
 use Rattle.lpm_bits.specs.Network.{prefix_of}
 use Rattle.lpm_rules.specs.RuleMap.{RuleMap, rules_of}
 use Rattle.lpm_rules.specs.declared.Rule.{Rule}
 use Rattle.lpm_limits.specs.Limits.{IsConfig}
 use Rattle.lpm_limits.specs.declared.config.Config.{Config}
-use Rattle.fib_model.specs.Outcomes.{groups_in_use}
+use Rattle.fib_model.specs.Outcomes.{AreSufficient, AreTooSmall}
 use Rattle.fib.specs.Fib.{FibState, initial_fib_with}
 use Rattle.saxiko_c.specs.Status.{OpensIt, no_memory, invalid, no_space, too_big, out_of_domain}
 use Rattle.saxiko_c.specs.Table.{IsBad}
 use Rattle.saxiko_c.specs.declared.records.SaxikoRoute.{SaxikoRoute}
-use Rattle.shared_fib.specs.Passes.{IsFullBench}
-use Rattle.shared_fib.specs.RunningTable.{initial_writer}
-use Rattle.saxiko_c.specs.RunningTable.{OwnerState}
+use Rattle.saxiko_c.specs.RunningTable.{StagedOwner, IsOpened}
 
 -- the rule that a route gives
 abbrev pub rule_of : SaxikoRoute → Rule 24 8
@@ -33,31 +30,26 @@ pub record IsFirstBad (routes : List SaxikoRoute) (place : ℕ) : Type 0 where
   pub bad : IsSomeAnd (slice_get routes place) IsBadRoute
   pub before : All (λ route. ¬ IsBadRoute route) (take place routes)
 
--- the routes were not read: EDOM and the place of the first that gives no rule, or ENOMEM
+-- the routes were not read: E2BIG, EDOM and the place of the first that gives no rule, or ENOMEM
 abbrev pub IsUnread : List SaxikoRoute → ℕ → ℕ → ℤ → Type 0
 IsUnread routes before after status =
-    ((status ≡ out_of_domain) × IsFirstBad routes after)
-    ⊎ ((status ≡ no_memory) × (after ≡ before))
+    ((status ≡ too_big) × (2 ^ 26 < length routes) × (after ≡ before))
+    ⊎ (((status ≡ out_of_domain) × IsFirstBad routes after)
+    ⊎ ((status ≡ no_memory) × (after ≡ before)))
 
--- the limits don't suffice for the rules, or for their groups
-abbrev pub IsTooSmall : Config → RuleMap → Type 0
-IsTooSmall c R = (c.rules < len R) ⊎ (c.groups < groups_in_use 24 8 R)
-
--- no table was opened: E2BIG, or as IsUnread says, or else EINVAL, ENOSPC or ENOMEM
+-- no table was opened: as IsUnread says, or else EINVAL, ENOSPC or ENOMEM
 abbrev pub IsUnloaded : Config → List SaxikoRoute → ℕ → ℕ → ℤ → Type 0
 IsUnloaded c routes before after status =
-    ((status ≡ too_big) × (2 ^ 26 < length routes) × (after ≡ before))
-    ⊎ (IsUnread routes before after status
+    IsUnread routes before after status
     ⊎ ((after ≡ before)
     × (((status ≡ invalid) × ¬ IsConfig c)
-    ⊎ ((status ≡ no_space) × IsConfig c × IsTooSmall c (rules_of_routes routes)))))
+    ⊎ ((status ≡ no_space) × IsConfig c × AreTooSmall 24 8 c (rules_of_routes routes))))
 
 -- the table has the rules of the routes, as version 0
 pub record IsLoaded (c : Config) (routes : List SaxikoRoute) (before after : ℕ) (f : FibState) : Type 0 where
   pub table : f ≡ initial_fib_with c (rules_of_routes routes)
   pub limits : IsConfig c
-  pub rules_fit : len (rules_of_routes routes) ≤ c.rules
-  pub groups_fit : groups_in_use 24 8 (rules_of_routes routes) ≤ c.groups
+  pub suffice : AreSufficient 24 8 c (rules_of_routes routes)
   pub unchanged : after ≡ before
 
 -- a closed handle has a table with the rules then; an open one stays as it is
@@ -67,19 +59,13 @@ Loads c routes before after =
 
 -- A running table that opens with the routes of a list (this project's).
 
--- a table with these rules as version 0, of which no reader is handed out, and no grace period lasts
-pub record IsOpenedWith (c : Config) (R : RuleMap) (o : OwnerState) : Type 0 where
-  pub opened : o.writer ≡ initial_writer o.writer.identity c R
-  pub token : o.writer.identity.initial.token ≡ c.first_token
-  pub workers : o.writer.identity.initial.workers ≡ c.workers
-  pub at_rest : o.waits ≡ false
-  pub bench : IsFullBench o.writer.identity o.bench
-  pub limits : IsConfig c
-  pub rules_fit : len R ≤ c.rules
-  pub groups_fit : groups_in_use 24 8 R ≤ c.groups
+-- the limits suffice, and the table has the rules of the routes
+abbrev pub IsLoadedRunning : Config → List SaxikoRoute → StagedOwner → Type 0
+IsLoadedRunning c routes o =
+    AreSufficient 24 8 c (rules_of_routes routes) × IsOpened c (rules_of_routes routes) o
 
 -- a closed handle has a table with the rules of the routes then; an open one stays as it is
 abbrev pub LoadsRunning : Config → List SaxikoRoute → ℕ → ℕ → Option StagedOwner → ℤ → Option StagedOwner → Type 0
 LoadsRunning c routes before after =
-    OpensIt (IsUnloaded c routes before after) (λ o. (after ≡ before) × IsOpenedWith c (rules_of_routes routes) o)
+    OpensIt (IsUnloaded c routes before after) (λ o. (after ≡ before) × IsLoadedRunning c routes o)
     (after ≡ before)

@@ -4,8 +4,9 @@ use Rattle.std.specs.Prelude.{Bool, List, Option, refl, ℕ, ℤ, ⊤, ◌≡◌
 use Rattle.std.specs.Coded.{Coded, code_by, coded×, coded_bool, coded_list, coded_option}
 use Rattle.shared_fib.specs.RunningTable.{WriterState, coded_writer, IsAtRest, by_steps, hop_or, initial_writer, initial_state, steps_of, token_of}
 use Rattle.shared_fib.specs.Passes.{PassState, coded_pass, IsBenchOf, IsFullBench, IsPassOf, LooksUp, Makes}
-use Rattle.std.specs.FinMap.{get, len, empty}
+use Rattle.std.specs.FinMap.{empty}
 use Rattle.lpm_bits.specs.Network.{prefix_of}
+use Rattle.lpm_rules.specs.RuleMap.{RuleMap}
 use Rattle.lpm_rules.specs.declared.Put.{Put}
 use Rattle.lpm_limits.specs.Limits.{IsConfig}
 use Rattle.lpm_limits.specs.declared.config.Config.{Config}
@@ -20,7 +21,7 @@ use Rattle.shared_fib.specs.FreedGroups.{TakesLeast, FreesChecked}
 use Rattle.shared_fib.specs.Bursts.{LooksUpBurst}
 use Rattle.shared_words.specs.Rule.{IsLater}
 use Rattle.saxiko_c.specs.Status.{OpensIt, success, no_memory, busy, invalid, not_permitted, already, add_status, status_of}
-use Rattle.saxiko_c.specs.Table.{IsBad, IsUnopened, Stores, Tells}
+use Rattle.saxiko_c.specs.Table.{IsBad, IsCounted, IsUnopened, Stores, Tells}
 use Rattle.saxiko_c.specs.declared.records.SaxikoCounts.{SaxikoCounts}
 use Rattle.saxiko_c.specs.declared.records.SaxikoHeld.{SaxikoHeld}
 use Rattle.saxiko_c.specs.declared.records.SaxikoSpan.{SaxikoSpan}
@@ -41,19 +42,22 @@ coded_owner = code_by (WriterState × (Bool × List (Option PassState)))
 
 -- ---- the writer
 
--- a table without rules, of which no reader is handed out, and no grace period lasts
-pub record IsOpened (c : Config) (o : OwnerState) : Type 0 where
-  pub opened : o.writer ≡ initial_writer o.writer.identity c empty
-  pub initial : initial_state o.writer.identity ≡ blank_state 24 8 c
+-- a table with these rules as version 0, of which no reader is handed out, and no grace period lasts
+pub record IsOpened (c : Config) (R : RuleMap) (o : StagedOwner) : Type 0 where
+  pub opened : o.writer ≡ initial_writer o.writer.identity c R
   pub token : o.writer.identity.initial.token ≡ c.first_token
   pub workers : o.writer.identity.initial.workers ≡ c.workers
   pub at_rest : o.waits ≡ false
   pub bench : IsFullBench o.writer.identity o.bench
   pub limits : IsConfig c
 
+-- such a table without rules, the words of which are all misses
+abbrev pub IsBlank : Config → StagedOwner → Type 0
+IsBlank c o = IsOpened c empty o × (initial_state o.writer.identity ≡ blank_state 24 8 c)
+
 -- a closed handle has such a table then; an open one stays as it is
-abbrev pub Opens : Config → Option OwnerState → ℤ → Option OwnerState → Type 0
-Opens c = OpensIt (IsUnopened c) (IsOpened c) ⊤
+abbrev pub Opens : Config → Option StagedOwner → ℤ → Option StagedOwner → Type 0
+Opens c = OpensIt (IsUnopened c) (IsBlank c) ⊤
 
 -- the table's rules alone were changed, by steps that come after the earlier ones, and each group that was
 -- freed was checked after it was given up
@@ -101,24 +105,11 @@ FreesHeld max freed before after o status p = (r : Reclaimed)
     × (freed ≡ r.freed) × Names r.stopped before status after
     × (p.writer.identity ≡ o.writer.identity) × (p.writer.config ≡ o.writer.config) × (p.bench ≡ o.bench)
 
-abbrev pub GetsFrom : ℕ → ℕ → ℕ → ℕ → OwnerState → ℤ → Type 0
-GetsFrom addr depth before after o status =
-    ((32 < depth) × (status ≡ invalid) × (after ≡ before))
-    ⊎ ((depth ≤ 32) × Tells (get o.writer.table.rules (prefix_of 32 depth addr)) status before after)
-
--- rules, versions, token and groups are counted
-pub record IsCountedIn (w : WriterState) (c : SaxikoCounts) : Type 0 where
-  pub rules : c.rules ≡ len w.table.rules
-  pub versions : c.versions ≡ w.table.updates_begun
-  pub token : c.token ≡ token_of w
-  pub in_use : c.groups_in_use ≡ groups_in_use 24 8 w.table.rules
-  pub waiting : c.groups_waiting ≡ length w.table.limbo
-  pub all : c.groups_in_use + c.groups_waiting + c.groups_free ≡ w.config.groups
-
--- and the table is at rest: by its rules the words answer each address, and each of the writer's steps so far
--- might come after those before it
-abbrev pub Counts : SaxikoCounts → OwnerState → ℤ → Type 0
-Counts c o status = (status ≡ success) × IsCountedIn o.writer c × IsAtRest o.writer
+-- rules, versions, token and groups are counted, and the table is at rest: by its rules the words answer each
+-- address, and each of the writer's steps so far might come after those before it
+abbrev pub Counts : SaxikoCounts → StagedOwner → ℤ → Type 0
+Counts c o status = (status ≡ success)
+    × IsCounted o.writer.table o.writer.config.groups (token_of o.writer) c × IsAtRest o.writer
 
 -- ---- readers
 

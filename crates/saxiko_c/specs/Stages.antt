@@ -2,7 +2,7 @@
 use Rattle.std.specs.Prelude.{Bool, true, false, [], ⊤}
 use Rattle.std.specs.FinMap.{empty}
 use Rattle.lpm_limits.specs.Limits.{default_config}
-use Rattle.saxiko.specs.Owners.{OwnerState as Owned}
+use Rattle.saxiko.specs.Owners.{OwnerState}
 use Rattle.shared_fib.specs.RunningTable.{Identity, initial_writer}
 use Rattle.saxiko_c.specs.declared.stage.Stage.{Stage}
 use Rattle.saxiko_c.specs.declared.stage.Stage.TheVariants.{AtRest, Waiting, Moving}
@@ -15,7 +15,7 @@ no_table = record {
 }
 
 -- its state; between the two it stands for none
-abbrev pub owned_in : Stage → Owned
+abbrev pub owned_in : Stage → OwnerState
 owned_in (AtRest owner) = owner
 owned_in (Waiting period) = period
 owned_in Moving = record {

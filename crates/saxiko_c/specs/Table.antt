@@ -12,6 +12,7 @@ use Rattle.lpm_limits.specs.declared.config.Config.{Config}
 use Rattle.lpm_limits.specs.declared.refusal.Refusal.{Refusal}
 use Rattle.defer_queue.specs.declared.Reclaimed.{Reclaimed}
 use Rattle.fib_model.specs.Counters.{counter_transitions}
+use Rattle.fib_model.specs.State.{State}
 use Rattle.fib_model.specs.Outcomes.{groups_in_use, Adds, Deletes, Flushes, Frees}
 use Rattle.fib.specs.Fib.{FibState, initial_fib, IsHopOrDefault}
 use Rattle.saxiko_c.specs.Status.{OpensIt, success, no_entry, no_memory, invalid, add_status, status_of}
@@ -82,10 +83,10 @@ Finds addr before after f status =
     (x : Option ℕ) × IsLongestHop 32 f.table.rules addr x × Tells x status before after
 
 -- the next hop of the rule of this very prefix
-abbrev pub Gets : ℕ → ℕ → ℕ → ℕ → FibState → ℤ → Type 0
-Gets addr depth before after f status =
+abbrev pub Gets : ℕ → ℕ → ℕ → ℕ → RuleMap → ℤ → Type 0
+Gets addr depth before after R status =
     ((32 < depth) × (status ≡ invalid) × (after ≡ before))
-    ⊎ ((depth ≤ 32) × Tells (get f.table.rules (prefix_of 32 depth addr)) status before after)
+    ⊎ ((depth ≤ 32) × Tells (get R (prefix_of 32 depth addr)) status before after)
 
 -- each address's next hop is stored, or the default, or it is EINVAL where there isn't as much room
 abbrev pub FindsAll : ℕ → List ℕ → List ℕ → List ℕ → FibState → ℤ → Type 0
@@ -94,17 +95,17 @@ FindsAll default addrs before after f status =
     ⊎ ((length addrs ≡ length before) × (status ≡ success)
     × AllZip (IsHopOrDefault 32 f.table.rules default) addrs after)
 
--- rules, versions, token and groups are counted
-pub record IsCounted (f : FibState) (c : SaxikoCounts) : Type 0 where
-  pub rules : c.rules ≡ len f.table.rules
-  pub versions : c.versions ≡ f.table.updates_begun
-  pub token : c.token ≡ f.table.readers.token
-  pub in_use : c.groups_in_use ≡ groups_in_use 24 8 f.table.rules
-  pub waiting : c.groups_waiting ≡ length f.table.limbo
-  pub all : c.groups_in_use + c.groups_waiting + c.groups_free ≡ f.config.groups
+-- of a table with so many groups and this newest token, rules, versions, token and groups are counted
+pub record IsCounted {X : Type 0} (table : State X) (groups newest : ℕ) (c : SaxikoCounts) : Type 0 where
+  pub rules : c.rules ≡ len table.rules
+  pub versions : c.versions ≡ table.updates_begun
+  pub token : c.token ≡ newest
+  pub in_use : c.groups_in_use ≡ groups_in_use 24 8 table.rules
+  pub waiting : c.groups_waiting ≡ length table.limbo
+  pub all : c.groups_in_use + c.groups_waiting + c.groups_free ≡ groups
 
 abbrev pub Counts : SaxikoCounts → FibState → ℤ → Type 0
-Counts c f status = (status ≡ success) × IsCounted f c
+Counts c f status = (status ≡ success) × IsCounted f.table f.config.groups f.table.readers.token c
 
 -- The rule that answers an address, by the status that its calls answer (this project's).
 

@@ -128,7 +128,7 @@ impl Owner {
     }
 }
 
-pub(crate) fn start(owner: &mut Owner) -> i32
+pub(crate) fn start_by_owner(owner: &mut Owner) -> i32
     ensures { Starts owner.old result owner.new }
 {
     if owner.is_waiting() {
@@ -141,7 +141,7 @@ pub(crate) fn start(owner: &mut Owner) -> i32
 }
 
 /// Returns 1 where a reader holds the token, and names it.
-pub(crate) fn check(owner: &mut Owner, held: &mut SaxikoHeld) -> i32
+pub(crate) fn check_by_owner(owner: &mut Owner, held: &mut SaxikoHeld) -> i32
     ensures { ChecksOnce held.old held.new owner.old result owner.new }
 {
     if !owner.is_waiting() {

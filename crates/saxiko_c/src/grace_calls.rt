@@ -16,7 +16,7 @@ use std::alloc::Global;
 pub extern "C" fn saxiko_proved_writer_start(alloc: Global, handle: &mut SaxikoWriter) -> i32
     ensures { Calls Starts ⊤ handle.old.kept result handle.new.kept }
 {
-    on_open!(alloc, handle, owner => grace::start(&mut owner))
+    on_open!(alloc, handle, owner => grace::start_by_owner(&mut owner))
 }
 
 /// Checks once whether the grace period is over; it is 1 where a reader holds what was given up before it, which is
@@ -30,5 +30,5 @@ pub extern "C" fn saxiko_proved_writer_check(
     ensures { Calls (ChecksOnce held.old held.new) (held.new ≡ held.old)
         handle.old.kept result handle.new.kept }
 {
-    on_open!(alloc, handle, owner => grace::check(&mut owner, held))
+    on_open!(alloc, handle, owner => grace::check_by_owner(&mut owner, held))
 }

@@ -29,7 +29,8 @@ fn one_rule(route: SaxikoRoute) -> Option<Rule<24, 8>>
     }
 }
 
-/// The rules of routes, in their order. Where one is none, `bad` is the place of the first such.
+/// The rules of routes, in their order, of no more than can be sorted. Where one is none, `bad` is the
+/// place of the first such.
 pub(crate) fn read(
     alloc: Global,
     routes: &[SaxikoRoute],
@@ -39,6 +40,9 @@ pub(crate) fn read(
         (λ v. (v.items ≡ map rule_of routes.now) × (bad.new ≡ bad.old))
         (λ status. IsUnread routes.now bad.old bad.new status) }
 {
+    if routes.len() > MOST_SORTED {
+        return Err(E2BIG);
+    }
     let Ok(mut rules) = Vec::with_capacity(alloc, routes.len()) else {
         return Err(ENOMEM);
     };
@@ -65,9 +69,6 @@ pub(crate) fn load_table(
         (λ b. IsLoaded config routes.now bad.old bad.new b.value)
         (λ status. IsUnloaded config routes.now bad.old bad.new status) }
 {
-    if routes.len() > MOST_SORTED {
-        return Err(E2BIG);
-    }
     let rules = match read(alloc, routes, bad) {
         Ok(rules) => rules,
         Err(status) => return Err(status),

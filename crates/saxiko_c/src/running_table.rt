@@ -1,11 +1,11 @@
 //! What the calls do with a running table.
 
 ghost use Rattle.std.specs.Prelude.{◌≡◌, ⊤, MatchResult, true, false};
-ghost use Rattle.shared_fib.specs.RunningTable.{IsAtRest, hop_or};
+ghost use Rattle.shared_fib.specs.RunningTable.{IsAtRest, hop_or, token_of};
 ghost use Rattle.saxiko_c.specs.Grace.{AsksAtRest, AtRest};
-ghost use Rattle.saxiko_c.specs.Loads.{IsUnloaded, rules_of_routes, IsOpenedWith};
-ghost use Rattle.saxiko_c.specs.RunningTable.{AddsTo, Counts, DeletesFrom, Finds, FindsAllIn, FindsAllWithin, FindsBetween, FindsIn, FindsWithin, Flushes, FreesHeld, GetsFrom, GivesBack, GoesOffline, GoesOnline, IsCountedIn, IsOpened, IsRegistered, IsUnregistered, Quiesces};
-ghost use Rattle.saxiko_c.specs.Table.{IsUnopened};
+ghost use Rattle.saxiko_c.specs.Loads.{IsLoadedRunning, IsUnloaded};
+ghost use Rattle.saxiko_c.specs.RunningTable.{AddsTo, Counts, DeletesFrom, Finds, FindsAllIn, FindsAllWithin, FindsBetween, FindsIn, FindsWithin, Flushes, FreesHeld, GivesBack, GoesOffline, GoesOnline, IsBlank, IsRegistered, IsUnregistered, Quiesces};
+ghost use Rattle.saxiko_c.specs.Table.{Gets, IsCounted, IsUnopened};
 
 use crate::bursts::{find_all, find_all_within};
 use crate::handle::boxed;
@@ -14,18 +14,17 @@ use crate::owner::Owner;
 use crate::records::{SaxikoCounts, SaxikoHeld, SaxikoRoute, SaxikoSpan};
 use crate::stage::Stage;
 use crate::status::{
-    E2BIG, EAGAIN, EALREADY, EBUSY, EINVAL, ENOENT, ENOMEM, ENOSPC, EPERM, of_add, of_refusal,
+    EAGAIN, EALREADY, EBUSY, EINVAL, ENOENT, ENOMEM, ENOSPC, EPERM, of_add, of_refusal,
 };
 use crate::table::store_deleted;
 use lpm_bits::{Hop, Prefix};
 use lpm_limits::{Config, Refusal};
-use lpm_sweep::MOST_SORTED;
 use lpm_writer::OpenError;
 use saxiko::Reader;
 use std::alloc::Global;
 
 pub(crate) fn open_owner(alloc: Global, config: Config) -> Result<Box<Owner>, i32>
-    ensures { MatchResult result (λ b. IsOpened config b.value) (IsUnopened config) }
+    ensures { MatchResult result (λ b. IsBlank config b.value) (IsUnopened config) }
 {
     match saxiko::Owner::open(alloc, config) {
         Ok(owner) => boxed(alloc, Owner::new(owner)),
@@ -42,12 +41,9 @@ pub(crate) fn load_owner(
     bad: &mut usize,
 ) -> Result<Box<Owner>, i32>
     ensures { MatchResult result
-        (λ b. (bad.new ≡ bad.old) × IsOpenedWith config (rules_of_routes routes.now) b.value)
+        (λ b. (bad.new ≡ bad.old) × IsLoadedRunning config routes.now b.value)
         (λ status. IsUnloaded config routes.now bad.old bad.new status) }
 {
-    if routes.len() > MOST_SORTED {
-        return Err(E2BIG);
-    }
     let rules = match read(alloc, routes, bad) {
         Ok(rules) => rules,
         Err(status) => return Err(status),
@@ -129,7 +125,8 @@ pub(crate) fn reclaim_by_writer(
 }
 
 pub(crate) fn get_by_writer(owner: &Owner, addr: u32, depth: u8, hop: &mut u32) -> i32
-    ensures { AsksAtRest (GetsFrom addr depth hop.old hop.new) (hop.new ≡ hop.old) owner.now result }
+    ensures { AsksAtRest (λ o. Gets addr depth hop.old hop.new o.writer.table.rules)
+        (hop.new ≡ hop.old) owner.now result }
 {
     let Stage::AtRest(running) = &owner.stage else {
         return EAGAIN;
@@ -147,7 +144,8 @@ pub(crate) fn get_by_writer(owner: &Owner, addr: u32, depth: u8, hop: &mut u32) 
 }
 
 fn count(running: &mut saxiko::Owner) -> SaxikoCounts
-    ensures counted { IsCountedIn running.old.writer result }
+    ensures counted { IsCounted running.old.writer.table running.old.writer.config.groups
+        (token_of running.old.writer) result }
     ensures rests { IsAtRest running.old.writer }
     ensures same { running.new ≡ running.old }
 {

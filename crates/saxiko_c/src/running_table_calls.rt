@@ -4,7 +4,8 @@ ghost use Rattle.std.specs.Prelude.{◌≡◌, ⊤, None, Some};
 ghost use Rattle.saxiko_c.specs.Status.{Asks, Calls, config_of};
 ghost use Rattle.saxiko_c.specs.Grace.{AsksAtRest, AtRest};
 ghost use Rattle.saxiko_c.specs.Loads.{LoadsRunning};
-ghost use Rattle.saxiko_c.specs.RunningTable.{AddsTo, AreOfOneTable, Counts, DeletesFrom, FindsAllIn, FindsAllWithin, FindsIn, FindsWithin, Flushes, FreesHeld, GetsFrom, GoesOffline, GoesOnline, Opens, Quiesces, Registers, Unregisters};
+ghost use Rattle.saxiko_c.specs.RunningTable.{AddsTo, AreOfOneTable, Counts, DeletesFrom, FindsAllIn, FindsAllWithin, FindsIn, FindsWithin, Flushes, FreesHeld, GoesOffline, GoesOnline, Opens, Quiesces, Registers, Unregisters};
+ghost use Rattle.saxiko_c.specs.Table.{Gets};
 
 use crate::handle::{Handle, on_closed, on_open, put, take};
 use crate::handles::{SaxikoReader, SaxikoWriter};
@@ -118,8 +119,8 @@ pub extern "C" fn saxiko_proved_writer_get(
     depth: u8,
     hop: &mut u32,
 ) -> i32
-    ensures found { Asks (AsksAtRest (GetsFrom addr depth hop.old hop.new) (hop.new ≡ hop.old))
-        (hop.new ≡ hop.old) handle.old.kept result }
+    ensures found { Asks (AsksAtRest (λ o. Gets addr depth hop.old hop.new o.writer.table.rules)
+        (hop.new ≡ hop.old)) (hop.new ≡ hop.old) handle.old.kept result }
     ensures same { handle.new.kept ≡ handle.old.kept }
 {
     on_open!(alloc, handle, owner => running_table::get_by_writer(&owner, addr, depth, hop))

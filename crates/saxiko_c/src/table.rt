@@ -92,7 +92,7 @@ pub(crate) fn find_hop(fib: &Fib<24, 8>, addr: u32, hop: &mut u32) -> i32
 }
 
 pub(crate) fn get_in_table(fib: &Fib<24, 8>, addr: u32, depth: u8, hop: &mut u32) -> i32
-    ensures { Gets addr depth hop.old hop.new fib.now result }
+    ensures { Gets addr depth hop.old hop.new fib.now.table.rules result }
 {
     match Prefix::new(addr, u32::from(depth)) {
         Ok(prefix) => match fib.get(&prefix) {
@@ -118,7 +118,7 @@ pub(crate) fn lookup_all(fib: &Fib<24, 8>, addrs: &[u32], hops: &mut [u32], defa
 }
 
 pub(crate) fn count(fib: &Fib<24, 8>) -> SaxikoCounts
-    ensures { IsCounted fib.now result }
+    ensures { IsCounted fib.now.table fib.now.config.groups fib.now.table.readers.token result }
 {
     let groups = fib.counts();
     SaxikoCounts {

@@ -143,7 +143,8 @@ pub extern "C" fn saxiko_proved_table_get(
     depth: u8,
     hop: &mut u32,
 ) -> i32
-    ensures found { Asks (Gets addr depth hop.old hop.new) (hop.new ≡ hop.old) handle.old.kept result }
+    ensures found { Asks (λ f. Gets addr depth hop.old hop.new f.table.rules) (hop.new ≡ hop.old)
+        handle.old.kept result }
     ensures same { handle.new.kept ≡ handle.old.kept }
 {
     on_open!(alloc, handle, fib => table::get_in_table(&fib, addr, depth, hop))

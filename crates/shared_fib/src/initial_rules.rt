@@ -1,11 +1,10 @@
 //! How a running table begins with the rules of a list.
 
-ghost use Rattle.std.specs.Prelude.{◌≡◌, ◌↔◌, ◌⊎◌, ◌+◌, ◌-◌, ◌*◌, ◌^◌, ◌<◌, ◌≤◌, ◌++◌, ◌∷◌, IfOk, IfErr, IfSome, IsNone, length, replicate};
-ghost use Rattle.std.specs.FinMap as map;
+ghost use Rattle.std.specs.Prelude.{◌≡◌, ◌↔◌, ◌+◌, ◌-◌, ◌*◌, ◌^◌, ◌<◌, ◌≤◌, ◌++◌, ◌∷◌, IfOk, IfErr, IfSome, IsNone, length, replicate};
 ghost use Rattle.lpm_bits.specs.Widths.{IsShape};
 ghost use Rattle.lpm_limits.specs.Limits.{IsConfig};
 ghost use Rattle.lpm_rules.specs.RuleMap.{AreInOrder, rules_of};
-ghost use Rattle.fib_model.specs.Outcomes.{groups_in_use};
+ghost use Rattle.fib_model.specs.Outcomes.{AreSufficient, AreTooSmall, groups_in_use};
 ghost use Rattle.shared_words.specs.Layout.{packed_words};
 ghost use Rattle.shared_fib.specs.LoadedTable.{AreSwept, IsLoaded};
 ghost use Rattle.shared_fib.specs.Passes.{IsFullBench};
@@ -142,13 +141,10 @@ pub fn open_sorted<const FIRST: u32, const SECOND: u32>(
     ensures token { IfOk result (λ o. IfSome o (λ r. r.0.initial.token ≡ config.first_token)) }
     ensures workers { IfOk result (λ o. IfSome o (λ r. r.0.initial.workers ≡ config.workers)) }
     ensures bench { IfOk result (λ o. IfSome o (λ r. IsFullBench r.0 r.2)) }
-    ensures rules_fit { IfOk result (λ o. IfSome o (λ _.
-        map.len (rules_of rules.entry.items) ≤ config.rules)) }
-    ensures groups_fit { IfOk result (λ o. IfSome o (λ _.
-        groups_in_use FIRST SECOND (rules_of rules.entry.items) ≤ config.groups)) }
+    ensures suffice { IfOk result (λ o. IfSome o (λ _.
+        AreSufficient FIRST SECOND config (rules_of rules.entry.items))) }
     ensures none { IfOk result (λ o. IsNone o
-        → (config.rules < map.len (rules_of rules.entry.items))
-        ⊎ (config.groups < groups_in_use FIRST SECOND (rules_of rules.entry.items))) }
+        → AreTooSmall FIRST SECOND config (rules_of rules.entry.items)) }
     ensures limits { IfOk result (λ _. IsConfig config) }
     ensures bad_config { IfErr result
         (λ error. (error ≡ OpenError.BadConfig) ↔ (¬ IsConfig config)) }

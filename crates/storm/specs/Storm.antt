@@ -9,6 +9,7 @@ use Rattle.storm.specs.declared.plan.Plan.{Plan}
 use Rattle.storm.specs.declared.plan.StormError.{StormError}
 use Rattle.storm.specs.Writer.{HasMade, changes_by, refused_among}
 use Rattle.std.specs.FinMap.{len}
+use Rattle.fib_model.specs.State.{State}
 use Rattle.fib_model.specs.Outcomes.{Frees, groups_in_use}
 use Rattle.lpm_writer.specs.Steps.{Synchronizes}
 use Rattle.defer_queue.specs.declared.Reclaimed.{Reclaimed}
@@ -90,14 +91,15 @@ pub record Settles (id : Identity) (last end : WriterState) : Type 0 where
   pub rests : IsAtRest end
   pub emptied : end.table.limbo ≡ []
 
--- the report has what the table counts
-pub record IsCountOf (first second : ℕ) (w : WriterState) (r : TableCounts) : Type 0 where
-  pub rules : r.rules ≡ len w.table.rules
-  pub versions : r.versions ≡ w.table.updates_begun
-  pub in_use : r.in_use ≡ groups_in_use first second w.table.rules
-  pub limbo : r.limbo ≡ length w.table.limbo
-  pub groups : r.in_use + r.limbo + r.free ≡ w.config.groups
-  pub token : r.token ≡ token_of w
+-- the report has what a table counts that has so many groups in all and this newest token
+pub record IsCountOf {X : Type 0} (first second : ℕ) (table : State X) (all newest : ℕ)
+    (r : TableCounts) : Type 0 where
+  pub rules : r.rules ≡ len table.rules
+  pub versions : r.versions ≡ table.updates_begun
+  pub in_use : r.in_use ≡ groups_in_use first second table.rules
+  pub limbo : r.limbo ≡ length table.limbo
+  pub groups : r.in_use + r.limbo + r.free ≡ all
+  pub token : r.token ≡ newest
 
 -- A storm of this plan came out so. The pass of each worker has looked the whole list up in each round. Each
 -- answer is the longest match in a version from its `lo` to its `hi`: those of the accepted changes, from the
@@ -122,4 +124,4 @@ pub record IsStorm {first second : ℕ} (p : Plan first second) (r : StormReport
       (answers_of_passes passes) r.wrong
   pub wrong : r.wrong ≡ 0
   pub limbo : r.table.limbo ≡ 0
-  pub counts : IsCountOf first second end r.table
+  pub counts : IsCountOf first second end.table end.config.groups (token_of end) r.table

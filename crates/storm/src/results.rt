@@ -1,4 +1,4 @@
-//! What a storm does when its threads have ended.
+//! The results of a storm: what is done and counted when its threads have ended.
 
 ghost use Rattle.std.specs.Prelude.{◌≡◌, ◌+◌, ◌^◌, ◌<◌, ◌≤◌, [], ◌∷◌, ◌++◌, true, All, IfOk, MatchOption, OnErr, OnOk, length, map, drop};
 ghost use Rattle.shared_fib.specs.RunningTable.{initial_state, steps_of, token_of};
@@ -89,7 +89,8 @@ pub fn report_of<const FIRST: u32, const SECOND: u32>(
 ) -> TableCounts
     requires own { writer.old.identity ≡ table.now }
     ensures same { writer.new ≡ writer.old }
-    ensures counts { IsCountOf FIRST SECOND writer.old result }
+    ensures counts { IsCountOf FIRST SECOND writer.old.table writer.old.config.groups
+        (token_of writer.old) result }
 {
     let counts = writer.counts();
     TableCounts {

@@ -68,4 +68,4 @@ returns-clause-loaded c =
     let few = inv.few in
     loaded_as c.args.config routes c.loop-index.rules.rules c.loop-index.versions (omega arith)
     (inv.rules ∙ ap rules_of_routes all) (inv.versions ∙ ap changes_of all)
-    (record { rules = omega (arith, most, max); groups = omega (arith, used, few) }) c.requires.tokens
+    (omega (arith, most, max), omega (arith, used, few)) c.requires.tokens

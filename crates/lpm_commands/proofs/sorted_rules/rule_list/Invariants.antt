@@ -1,5 +1,5 @@
 use Rattle.std.proofs.Common.{◌≡◌, map, take}
-use Rattle.lpm_commands.specs.FilledTable.{rule_of}
+use Rattle.lpm_commands.specs.Load.{rule_of}
 use Rattle.lpm_commands.proofs.sorted_rules.rule_list.Given as goal
 
 abbrev pub invariant-loop-route : goal.invariant-loop-route

@@ -3,13 +3,12 @@ use Rattle.std.proofs.lemmas.Result.{IfOk-weaker, IfErr-weaker}
 use Rattle.lpm_rules.specs.declared.Rule.{Rule}
 use Rattle.lpm_rules.specs.RuleMap.{rules_of}
 use Rattle.lpm_commands.proofs.Texts.{for_writer, is_plan}
-use Rattle.lpm_commands.proofs.RuleOrder.{same_rules}
 use Rattle.lpm_commands.proofs.storm_command.text_of_lists.Goals as goal
 
 pub text_of_plan-requires-clause-rules : goal.text_of_plan-requires-clause-rules
 text_of_plan-requires-clause-rules g c κs within =
     let rules = c.deref.ensures.value ∙ c.in_ok-rules.ensures in
-    ap (λ (l : List (Rule 24 8)). rules_of l) rules ∙ same_rules c.args.routes.now
+    ap (λ (l : List (Rule 24 8)). rules_of l) rules
 
 pub text_of_plan-requires-clause-orders : goal.text_of_plan-requires-clause-orders
 text_of_plan-requires-clause-orders g c κs within =

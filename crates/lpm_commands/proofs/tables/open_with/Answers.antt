@@ -9,5 +9,5 @@ pub returns-clause-filled : goal.returns-clause-filled
 returns-clause-filled c =
     let limits = c.args.config in
     let is = c.in-Ok.ensures in
-    opened_filled limits (rules_of c.deref.result.now) c.in-Ok.table is.opened is.rules_fit is.groups_fit
+    opened_filled limits (rules_of c.deref.result.now) c.in-Ok.table is.opened is.suffice
     (subst (λ (l : List (Rule 24 8)). 0 < len (rules_of l) → limits.first_token + limits.groups ≤ 2 ^ 62) (sym c.deref.ensures.value) c.in-Some.ensures.tokens)

@@ -1,12 +1,11 @@
-use Rattle.std.proofs.Common.{◌≡◌, ◌≤◌, ◌∙◌, inl, inr, refl, ap, sym, subst}
+use Rattle.std.proofs.Common.{◌≡◌, ◌∙◌, inl, inr, refl, ap, sym, subst}
 use Rattle.std.proofs.lemmas.Result.{MatchResult-weaker}
-use Rattle.std.specs.FinMap.{len}
 use Rattle.lpm_rules.specs.RuleMap.{rules_of, RuleMap}
-use Rattle.fib_model.specs.Outcomes.{groups_in_use}
+use Rattle.fib_model.specs.Outcomes.{AreSufficient}
 use Rattle.saxiko.specs.Owners.{OwnerState}
 use Rattle.shared_fib.specs.Passes.{IsFullBench}
 use Rattle.shared_fib.specs.RunningTable.{initial_writer}
-use Rattle.saxiko_c.specs.Loads.{IsOpenedWith}
+use Rattle.saxiko_c.specs.RunningTable.{IsOpened}
 use Rattle.saxiko_c.proofs.Options.{at_some}
 use Rattle.saxiko_c.proofs.running_table.load_owner.Goals as goal
 
@@ -20,16 +19,16 @@ returns-in-Ok-Some c =
     MatchResult-weaker c.boxed.result c.boxed.ensures
     (λ b made. (
       same,
-      subst (λ (R : RuleMap). IsOpenedWith config R b.value) (ap rules_of (c.deref.ensures.value ∙ c.in-Ok.ensures.0))
-          (subst (IsOpenedWith config rules) (sym (made ∙ c.new.ensures)) (record {
-            opened = at_some (λ (o : OwnerState). o.writer ≡ initial_writer o.writer.identity config rules) is known.opened;
-            token = at_some (λ (o : OwnerState). o.writer.identity.initial.token ≡ config.first_token) is known.token;
-            workers = at_some (λ (o : OwnerState). o.writer.identity.initial.workers ≡ config.workers) is known.workers;
-            at_rest = refl;
-            bench = at_some (λ (o : OwnerState). IsFullBench o.writer.identity o.bench) is known.bench;
-            limits = known.limits;
-            rules_fit = at_some (λ (o : OwnerState). len rules ≤ config.rules) is known.rules_fit;
-            groups_fit = at_some (λ (o : OwnerState). groups_in_use 24 8 rules ≤ config.groups) is known.groups_fit;
-          })),
+      subst (λ (R : RuleMap). AreSufficient 24 8 config R × IsOpened config R b.value) (ap rules_of (c.deref.ensures.value ∙ c.in-Ok.ensures.0)) (
+        at_some (λ (o : OwnerState). AreSufficient 24 8 config rules) is known.suffice,
+        subst (IsOpened config rules) (sym (made ∙ c.new.ensures)) (record {
+          opened = at_some (λ (o : OwnerState). o.writer ≡ initial_writer o.writer.identity config rules) is known.opened;
+          token = at_some (λ (o : OwnerState). o.writer.identity.initial.token ≡ config.first_token) is known.token;
+          workers = at_some (λ (o : OwnerState). o.writer.identity.initial.workers ≡ config.workers) is known.workers;
+          at_rest = refl;
+          bench = at_some (λ (o : OwnerState). IsFullBench o.writer.identity o.bench) is known.bench;
+          limits = known.limits;
+        }),
+      ),
     ))
-    (λ status none. inr (inl (inr (none, same))))
+    (λ status none. inl (inr (inr (none, same))))
