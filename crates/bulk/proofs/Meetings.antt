@@ -85,30 +85,30 @@ answers_within id addrs hops a b c d ab bc cd answers w is rest written before a
     let same : d ≡ a = after ∙ sym before in
     answers w is rest written (between a b d ab (later_trans b c d bc cd) same ∙ before) (between a c d (later_trans a b c ab bc) cd same ∙ before)
 
--- ---- one desk after another
+-- ---- one element of a list after another, as desks, or workers of a storm
 
--- the desks before place i have come to this, and the others are as they were
-pub record UpTo (R : Desk → Desk → Type 0) (i : ℕ) (old new : List Desk) : Type 0 where
-  pub done : (k : ℕ) (d : Desk) → k < i → R (get_or old k d) (get_or new k d)
-  pub rest : (k : ℕ) (d : Desk) → i ≤ k → get_or new k d ≡ get_or old k d
+-- those before place i have come to this, and the others are as they were
+pub record UpTo {X : Type 0} (R : X → X → Type 0) (i : ℕ) (old new : List X) : Type 0 where
+  pub done : (k : ℕ) (d : X) → k < i → R (get_or old k d) (get_or new k d)
+  pub rest : (k : ℕ) (d : X) → i ≤ k → get_or new k d ≡ get_or old k d
 
-pub none_yet : (R : Desk → Desk → Type 0) (desks : List Desk) → UpTo R 0 desks desks
-none_yet R desks = record { done = λ k d lt. absurd (omega (arith, lt)); rest = λ k d le. refl }
+pub none_yet : {X : Type 0} (R : X → X → Type 0) (xs : List X) → UpTo R 0 xs xs
+none_yet R xs = record { done = λ k d lt. absurd (omega (arith, lt)); rest = λ k d le. refl }
 
--- what is so of the desks before place i, each by its place, and of the one that comes to stand there
-pub place_more : (P : ℕ → Desk → Type 0) (i : ℕ) (desks : List Desk) (y : Desk) → i < length desks
-    → ((k : ℕ) (d : Desk) → k < i → P k (get_or desks k d)) → P i y
-    → (k : ℕ) (d : Desk) → k < i + 1 → P k (get_or (set desks i y) k d)
-place_more P i desks y lt before now k d below = elim (cases_eq k i) [
-  | inl here ↦ subst (λ (n : ℕ). P n (get_or (set desks i y) n d)) (sym here)
-      (subst (P i) (sym (get_or-set_same desks i y d lt)) now)
-  | inr other ↦ subst (P k) (sym (get_or-set_other desks i k y d other))
+-- what is so of those before place i, each by its place, and of the one that comes to stand there
+pub place_more : {X : Type 0} (P : ℕ → X → Type 0) (i : ℕ) (xs : List X) (y : X) → i < length xs
+    → ((k : ℕ) (d : X) → k < i → P k (get_or xs k d)) → P i y
+    → (k : ℕ) (d : X) → k < i + 1 → P k (get_or (set xs i y) k d)
+place_more P i xs y lt before now k d below = elim (cases_eq k i) [
+  | inl here ↦ subst (λ (n : ℕ). P n (get_or (set xs i y) n d)) (sym here)
+      (subst (P i) (sym (get_or-set_same xs i y d lt)) now)
+  | inr other ↦ subst (P k) (sym (get_or-set_other xs i k y d other))
       (before k d (omega (arith, below, other)))
 ]
 
-pub one_more : (R : Desk → Desk → Type 0) (i : ℕ) (old new : List Desk) (e y : Desk) → i < length new
+pub one_more : {X : Type 0} (R : X → X → Type 0) (i : ℕ) (old new : List X) (e y : X) → i < length new
     → UpTo R i old new → R (get_or new i e) y → UpTo R (i + 1) old (set new i y)
-one_more R i old new e y lt up now = record {
+one_more {X} R i old new e y lt up now = record {
   done = λ k d below.
       let was : get_or new i e ≡ get_or old i d = get_or_default new i e d lt ∙ up.rest i d (omega arith) in
       place_more (λ (n : ℕ). R (get_or old n d)) i new y lt

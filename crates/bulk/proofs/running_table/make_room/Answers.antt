@@ -24,7 +24,7 @@ loop-number-preserved c =
     let new : Desk = record { pass = old.pass; hops = c.resize.new.self } in
     record {
       passes = one_more KeepsPass i c.args.desks.now desks c.index-desks-number.result new within known.passes refl;
-      room = place_more (λ k desk. vec_len desk.hops ≡ counts k) i desks new within known.room
+      room = place_more (λ (k : ℕ) (desk : Desk). vec_len desk.hops ≡ counts k) i desks new within known.room
           (c.in_ok-resize.ensures.len ∙ ap length c.piece_at-count.ensures);
     }
 

@@ -1,9 +1,10 @@
-use Rattle.std.proofs.Common.{◌≡◌, ◌<◌, ◌∙◌, true, arith, length, length-set, subst}
+use Rattle.std.proofs.Common.{◌≡◌, ◌<◌, ◌∙◌, arith, length, length-set, subst}
 use Rattle.shared_fib.specs.RunningTable.{WriterState, steps_of}
-use Rattle.storm.specs.Workers.{HasAnswered, IsOver, number_of}
+use Rattle.bulk.proofs.Meetings.{one_more}
+use Rattle.storm.specs.Workers.{HasAnswered, number_of}
 use Rattle.storm.specs.declared.workers.Worker.{Worker}
-use Rattle.storm.proofs.Meetings.{each_set, one_more}
-use Rattle.storm.proofs.finish.meet_all.Goals as goal
+use Rattle.storm.proofs.Meetings.{each_set}
+use Rattle.storm.proofs.results.meet_all.Goals as goal
 
 pub loop-number-preserved : goal.loop-number-preserved
 loop-number-preserved g c =
@@ -19,6 +20,6 @@ loop-number-preserved g c =
       len = length-set c.loop-number.workers c.loop-number.number worker ∙ was.len;
       seats = each_set (λ k w. number_of w ≡ k) c.loop-number.workers c.loop-number.number worker low was.seats
           (c.meet_worker.ensures.seat ∙ was.seats c.loop-number.number c.index-workers-number.result low);
-      met = one_more (HasAnswered id addrs rounds (steps_of c.args.writer.now)) (λ (w : Worker). IsOver id addrs rounds w × (w.is_done ≡ true))
-          c.loop-number.number c.loop-number.workers worker low was.met now;
+      met = one_more (λ (old new : Worker). HasAnswered id addrs rounds (steps_of c.args.writer.now) new) c.loop-number.number
+          c.args.workers.now c.loop-number.workers c.index-workers-number.result worker low was.met now;
     }
