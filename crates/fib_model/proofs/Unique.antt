@@ -1,7 +1,7 @@
 -- There is one first holder, one reclaim, and one way in which unlinkings come out.
 use Rattle.std.proofs.Common.{arith, ◌≡◌, ℕ, ◌+◌, ◌<◌, ◌≤◌, inl, inr, ap, sym, ◌∙◌, subst, List, [], ◌∷◌, length, reverse, take, get_or, Option, Some, None, MatchOption, Bool, IsTrue, IsFalse, ◌&&◌, cond, nat_lt, zero, suc, ◌⊎◌, refl, ◌++◌, slice_get}
 use Rattle.std.proofs.lemmas.Bool.{cases_Bool, true≢false, cases_lt}
-use Rattle.std.proofs.lemmas.List.{length-reverse, length-take-le, reverse-append, take_more, take_all}
+use Rattle.std.proofs.lemmas.List.{length-reverse, length-take-le, reverse-append, take_more}
 use Rattle.fib_model.specs.declared.event.Event.{Event}
 use Rattle.qsbr.specs.Intervals.{IsRunningSince}
 use Rattle.fib_model.specs.Textbook.{begins, ends, by_reports, textbook, is_unlinking, unlinkings_before, IsFirstHolder}
@@ -58,12 +58,6 @@ found_more xs i w e d since result low is found begin end other =
     subst (λ E. IsFound E w result) (sym (reverse_more xs i e d low is))
     (found_after (reverse (take i xs)) e w i since result (sym (length_front xs i (omega (arith, low)))) found begin end other)
 
-pub found_none : (w : ℕ) → IsFound [] w None
-found_none w = λ s r. r.begins
-
-pub found_all : (xs : List Event) (i w : ℕ) (since : Option ℕ) → length xs ≤ i → IsFound (reverse (take i xs)) w since → IsFound (reverse xs) w since
-found_all xs i w since past found = subst (λ l. IsFound (reverse l) w since) (take_all i xs past) found
-
 -- ---- unlinkings
 
 -- one more event counts where it is an unlinking before the place
@@ -75,9 +69,6 @@ counted xs i place n m e d counts low is test old new =
     ∙ ap (λ b. unlinkings_before (reverse (take i xs)) place + cond b 1 0) test
     ∙ ap (λ k. unlinkings_before (reverse (take i xs)) place + cond (is_unlinking e && nat_lt k place) 1 0) (sym (length_front xs i (omega (arith, low))))
     ∙ sym (ap (λ E. unlinkings_before E place) (reverse_more xs i e d low is))
-
-pub count_all : (xs : List Event) (i place : ℕ) → length xs ≤ i → unlinkings_before (reverse (take i xs)) place ≡ unlinkings_before (reverse xs) place
-count_all xs i place past = ap (λ l. unlinkings_before (reverse l) place) (take_all i xs past)
 
 -- the first holder of an unlinking
 pub one_holder : (c : Config) (E : List Event) (place : ℕ) (a b : Busy) → IsFirstHolder c.first_token E place a → IsFirstHolder c.first_token E place b → a ≡ b

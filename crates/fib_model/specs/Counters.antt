@@ -2,14 +2,13 @@
 -- takes the token into its counter when it goes online or reports a quiescent state, and 0 when
 -- it goes offline; a reader holds what was given up under a token where its counter isn't 0 and
 -- is below that token).
-use Rattle.std.specs.Prelude.{ℕ, ◌≡◌, ◌+◌, replicate, slice_index, slice_set, []}
-use Rattle.std.specs.FinMap.{empty}
+use Rattle.std.specs.Prelude.{ℕ, ◌≡◌, ◌+◌, replicate, slice_index, slice_set}
 use Rattle.qsbr.specs.Counters.{IsOnline, IsFirstHolding, Registry}
 use Rattle.lpm_limits.specs.declared.busy.Busy.{Busy}
 use Rattle.lpm_limits.specs.declared.config.Config.{Config}
 use Rattle.fib_model.specs.declared.orders.ReaderReport.{ReaderReport}
 use Rattle.fib_model.specs.declared.orders.ReaderReport.TheVariants.{Online, Offline, Quiescent}
-use Rattle.fib_model.specs.State.{State, Transitions, ReaderModel, looks}
+use Rattle.fib_model.specs.State.{State, Transitions, ReaderModel, looks, initial_with}
 
 -- the counter after a report
 abbrev pub counter_of : ReaderReport → ℕ → ℕ
@@ -41,9 +40,4 @@ by_counters = record {
 
 -- a table that was just opened
 abbrev pub initial_by_counters : Config → State Registry
-initial_by_counters c = record {
-  rules = empty;
-  readers = record { token = c.first_token; counters = replicate c.workers 0 };
-  limbo = [];
-  updates_begun = 0;
-}
+initial_by_counters c = initial_with (record { token = c.first_token; counters = replicate c.workers 0 })

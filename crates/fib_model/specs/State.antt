@@ -3,6 +3,7 @@
 use Rattle.std.specs.Prelude.{ℕ, ◌≡◌, ◌+◌, ◌^◌, ◌<◌, ◌≤◌, ◌⊎◌, List, Result, Ok, Err, zero, suc, [], ◌∷◌, ◌++◌, length, Option}
 use Rattle.lpm_limits.specs.declared.busy.Busy.{Busy}
 use Rattle.lpm_limits.specs.declared.config.Config.{Config}
+use Rattle.std.specs.FinMap.{empty}
 use Rattle.lpm_rules.specs.RuleMap.{RuleMap}
 use Rattle.fib_model.specs.declared.orders.ReaderReport.{ReaderReport}
 use Rattle.defer_queue.specs.Reclaims as queue
@@ -14,6 +15,10 @@ pub record State (X : Type 0) : Type 0 where
   pub readers : X
   pub limbo : List ℕ
   pub updates_begun : ℕ
+
+-- no rules, nothing waits and no update was begun; this is kept of the readers
+abbrev pub initial_with : {X : Type 0} → X → State X
+initial_with readers = record { rules = empty; readers = readers; limbo = []; updates_begun = 0 }
 
 -- a way to keep what a change depends on: each part of a change leads from what is kept to what is
 -- kept then

@@ -4,11 +4,10 @@ use Rattle.std.specs.Prelude.{ℕ, ◌==◌, Bool, true, false, List, length, �
 use Rattle.qsbr.specs.Intervals.{ReportRule, IsRunningSince, IsHeldByWorker, count_before}
 use Rattle.fib_model.specs.declared.event.Event.{Event}
 use Rattle.fib_model.specs.declared.event.Event.TheVariants.{Online, Offline, Quiescent, Unlinking}
-use Rattle.std.specs.FinMap.{empty}
 use Rattle.lpm_limits.specs.declared.busy.Busy.{Busy}
 use Rattle.lpm_limits.specs.declared.config.Config.{Config}
 use Rattle.fib_model.specs.declared.orders.ReaderReport.{ReaderReport}
-use Rattle.fib_model.specs.State.{State, Transitions, ReaderModel, looks}
+use Rattle.fib_model.specs.State.{State, Transitions, ReaderModel, looks, initial_with}
 use Rattle.fib_model.specs.declared.orders.ReaderReport.TheVariants as report
 
 -- Which whole reports begin and end a reader interval, and how many unlinkings there were (DPDK
@@ -79,4 +78,4 @@ by_intervals c = record {
 
 -- nothing has happened
 abbrev pub initial_by_events : State (List Event)
-initial_by_events = record { rules = empty; readers = []; limbo = []; updates_begun = 0 }
+initial_by_events = initial_with []

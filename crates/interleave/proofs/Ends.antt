@@ -1,4 +1,4 @@
--- A whole run: from the opening to what it shows.
+-- A whole run: from the initial state to what it shows.
 use Rattle.std.proofs.Common.{◌≡◌, ℕ, refl, ap, sym, subst, ◌∙◌, List, [], ◌++◌, length, reverse, arith, ◌<◌, ◌≤◌, ◌↔◌, inl, inr, true, false, Bool, ◌∷◌, Option, Some, None, MatchOption, suc, cond, eqb, eq-eqb, map, ◌*◌, ◌^◌}
 use Rattle.std.specs.FinMap.{empty}
 use Rattle.lpm_rules.specs.RuleMap.{RuleMap, network_cmp}
@@ -11,9 +11,9 @@ use Rattle.lpm_trace.specs.Trace.{writes, worker_of, IsTrace, worker_by_step, Fi
 use Rattle.interleave.specs.World.{HasEnded as ActorHasEnded, IsScheduled, writer_items, IsInitial, IsPlayedOut, WorldDid, Reaches, scripts_and_schedule, WorldDoes}
 use Rattle.interleave.specs.View.{script_at, WorldView}
 use Rattle.lpm_writer.specs.Commands.{Rests}
-use Rattle.lpm_writer.specs.Rest.{blank_state}
+use Rattle.lpm_writer.specs.Rest.{blank_state, state_of}
 use Rattle.interleave.specs.declared.trace.Trace.{Trace}
-use Rattle.interleave.specs.Runs.{StateBySteps, HasTokensLeft, Waits, Answers, AgreesWithSteps, state_by_steps, IsPerformed, IsRun, initial_state_by_steps, HaveComeOut, InitialStatesAreSettled, RunsAreLawful}
+use Rattle.interleave.specs.Runs.{StateBySteps, HasTokensLeft, Waits, Answers, AgreesWithSteps, IsPerformed, IsRun, initial_state_by_steps, HaveComeOut, InitialStatesAreSettled, RunsAreLawful}
 use Rattle.std.proofs.lemmas.Bool.{cases_lt}
 use Rattle.lpm_rules.specs.declared.Change.TheVariants.{Synchronize}
 use Rattle.lpm_trace.specs.States.{InitialState, state_after, TableState, Unused, Retired, IsSettled, IsAnswer, addresses, answer, updates_done_in, updates_begun_in, state_at}
@@ -88,7 +88,7 @@ not_true e = cc
 
 module _ (f s : ℕ) where
   abbrev pub kept_in : ControlState f s → List WriterStep → StateBySteps
-  kept_in l steps = state_by_steps l.rules steps l.pool l.versions
+  kept_in l steps = state_of l.rules.rules steps l.pool l.versions
 
   -- what a control state that rests keeps agrees with the steps that it has made
   pub agrees : (c : InitialState) (steps : List WriterStep) (l : ControlState f s) → Rests c steps l → AgreesWithSteps f s c (kept_in l steps)
@@ -128,6 +128,14 @@ module _ (f s : ℕ) where
   abbrev pub IsLate : WorldView → Bool → Type 0
   IsLate m late = (c : InitialState) (steps : List WriterStep) → WorldDid f s m c steps → (late ≡ true ↔ (writer_items m.schedule < length steps))
 
+  -- what follows from what a change came to: it waits, the schedule has ended before the writer's last step, or it hasn't
+  pub record Comes (m0 : WorldView) (l0 : ControlState f s) (done left : List (Change f s)) (replies : List Reply) (y : WorldView) (l : ControlState f s)
+      (change : Change f s) (tries : ℕ) (m' : WorldView) (l' : ControlState f s) : Type 0 where
+    pub waiting : HasCome y l change tries None m' l' → HasEnded m0 l0 (done ++ change ∷ left) replies m'
+    pub late : (reply : Reply) → HasCome y l change tries (Some reply) m' l' → IsLate m' true → HasEnded m0 l0 (done ++ change ∷ left) replies m'
+    pub in_time : (reply : Reply) → HasCome y l change tries (Some reply) m' l' → IsLate m' false
+        → HasAnswered m0 l0 (done ++ change ∷ []) (replies ++ reply ∷ []) m' l'
+
   module _ (m0 : WorldView) (l0 : ControlState f s) (done : List (Change f s)) (replies : List Reply) (m y : WorldView) (l : ControlState f s) (answered : HasAnswered m0 l0 done replies m l)
       (same : scripts_and_schedule m ≡ scripts_and_schedule m0) (reaches : Reaches f s m y) where
     abbrev n : ℕ
@@ -153,42 +161,40 @@ module _ (f s : ℕ) where
       low : (c : InitialState) (steps : List WriterStep) → WorldDid f s m c steps → length steps < n
       low c steps did = let some = (is_left c steps did).0 refl in omega (arith, some, items_same m0 m same)
 
-      pub answered_more : (reply : Reply) → HasCome y l change tries (Some reply) m' l' → IsLate m' false → HasAnswered m0 l0 (done ++ change ∷ []) (replies ++ reply ∷ []) m' l'
-      answered_more reply come in_time c did rests =
-          let h = answered c did rests in
-          let now = come c h.0 (reaches c h.0 h.1) h.2 in
-          let high : length now.0 ≤ n = elim (cases_lt n (length now.0)) [
-            | inl over ↦ absurd (not_true ((in_time c now.0 now.1).1 (omega (arith, over, items_same m0 m' still))))
-            | inr within ↦ omega (arith, within)
-          ] in (
-            now.0,
-            now.1,
-            now.2,
-            performed_more c f s l0.config n (kept_in l0 []) done replies (kept_in l h.0) change reply (kept_in l' now.0) h.3 (low c h.0 h.1) high
-                (subst (λ x. Answers c f s x (kept_in l h.0) change reply (kept_in l' now.0)) config now.3, agrees c now.0 l' now.2),
-          )
-
-      pub ends_late : (reply : Reply) → HasCome y l change tries (Some reply) m' l' → IsLate m' true → HasEnded m0 l0 (done ++ change ∷ left) replies m'
-      ends_late reply come late c did rests =
-          let h = answered c did rests in
-          let now = come c h.0 (reaches c h.0 h.1) h.2 in
-          let over : n < length now.0 = let some = (late c now.0 now.1).0 refl in omega (arith, some, items_same m0 m' still) in (
-            now.0,
-            now.1,
-            performed_within c f s l0.config n (kept_in l0 []) done left replies (kept_in l h.0) change now.0 h.3 (low c h.0 h.1) over
-                (inl (reply, kept_in l' now.0, (subst (λ x. Answers c f s x (kept_in l h.0) change reply (kept_in l' now.0)) config now.3, agrees c now.0 l' now.2), refl)),
-          )
-
-      pub ends_waiting : n ≤ tries → HasCome y l change tries None m' l' → HasEnded m0 l0 (done ++ change ∷ left) replies m'
-      ends_waiting many come c did rests =
-          let h = answered c did rests in
-          let now = come c h.0 (reaches c h.0 h.1) h.2 in
-          let long = waits_longer c tries h.0 now.2.0 now.2.2 in (
-            now.2.0,
-            now.2.1,
-            performed_within c f s l0.config n (kept_in l0 []) done left replies (kept_in l h.0) change now.2.0 h.3 (low c h.0 h.1) (omega (arith, long, many))
-                (inr (now.0, subst (λ x. HasTokensLeft c x (kept_in l h.0)) config now.1, (tries, now.2.2))),
-          )
+      pub comes : n ≤ tries → Comes m0 l0 done left replies y l change tries m' l'
+      comes many = record {
+        waiting = λ come c did rests.
+            let h = answered c did rests in
+            let now = come c h.0 (reaches c h.0 h.1) h.2 in
+            let long = waits_longer c tries h.0 now.2.0 now.2.2 in (
+              now.2.0,
+              now.2.1,
+              performed_within c f s l0.config n (kept_in l0 []) done left replies (kept_in l h.0) change now.2.0 h.3 (low c h.0 h.1) (omega (arith, long, many))
+                  (inr (now.0, subst (λ x. HasTokensLeft c x (kept_in l h.0)) config now.1, (tries, now.2.2))),
+            );
+        late = λ reply come late c did rests.
+            let h = answered c did rests in
+            let now = come c h.0 (reaches c h.0 h.1) h.2 in
+            let over : n < length now.0 = let some = (late c now.0 now.1).0 refl in omega (arith, some, items_same m0 m' still) in (
+              now.0,
+              now.1,
+              performed_within c f s l0.config n (kept_in l0 []) done left replies (kept_in l h.0) change now.0 h.3 (low c h.0 h.1) over
+                  (inl (reply, kept_in l' now.0, (subst (λ x. Answers c f s x (kept_in l h.0) change reply (kept_in l' now.0)) config now.3, agrees c now.0 l' now.2), refl)),
+            );
+        in_time = λ reply come in_time c did rests.
+            let h = answered c did rests in
+            let now = come c h.0 (reaches c h.0 h.1) h.2 in
+            let high : length now.0 ≤ n = elim (cases_lt n (length now.0)) [
+              | inl over ↦ absurd (not_true ((in_time c now.0 now.1).1 (omega (arith, over, items_same m0 m' still))))
+              | inr within ↦ omega (arith, within)
+            ] in (
+              now.0,
+              now.1,
+              now.2,
+              performed_more c f s l0.config n (kept_in l0 []) done replies (kept_in l h.0) change reply (kept_in l' now.0) h.3 (low c h.0 h.1) high
+                  (subst (λ x. Answers c f s x (kept_in l h.0) change reply (kept_in l' now.0)) config now.3, agrees c now.0 l' now.2),
+            );
+      }
 
 -- What a run shows of a worker's lookups: those that it has finished, and no others.
 

@@ -75,7 +75,7 @@ module _ (c : InitialState) (steps : List TraceStep) (w : TableState) where
   may_by_place p n h (MeetWriter sequence) may = (subst IsBetweenDeeds (sym h.phase) may.0, may.1)
   may_by_place p n h s may = h.phase ∙ may
 
--- there are as many second words as there were at the opening
+-- there are as many second words as there were at the beginning
 seconds_stay : (c : InitialState) (steps : List WriterStep) → length (state_after c steps).words.seconds ≡ length c.words.seconds
 seconds_stay c [] = refl
 seconds_stay c (StoreSecond j x ∷ steps) = length-set (state_after c steps).words.seconds j x ∙ seconds_stay c steps
@@ -148,7 +148,7 @@ turn_passes first second v c whole trace item next more left is ended world =
     (subst (λ items. IsScheduled (HasEnded (length v.scripts) (script_at v.scripts) (IsDoneAfter whole)) items trace) (sym (ap (used_items v.schedule) more ∙ used_more v.schedule v.next item left is)) (inl (ended, world.made)))
     (λ some. absurd (some refl))
 
--- the tables that the workers read
+-- the state that the workers read
 pub is_of : (first second : ℕ) (v : WorldView) (c : InitialState) (whole : Option (List WriterStep)) (trace : List TraceStep) → IsWorld first second v c whole trace []
     → IsOf first second v.words v.sequence v.token c (state_after c (writes trace))
 is_of first second v c whole trace world = record {

@@ -18,14 +18,14 @@ use Rattle.lpm_trace.specs.Laws.{Stands, IsLegal, Unlinks, Fills, by_steps, at_m
 -- Steps of which each may come after those before it, the newest first: `IsTrace` of
 -- `lpm_trace/specs/Trace`. A load gives what the word was left with, a worker makes the steps of
 -- reports and lookups, and the writer those of updates and checks in its own order (`WriterProgress`). A table
--- begins with words that answer by its rules (`IsSettled` of `lpm_trace/specs/TableState`). Moment t is the
+-- begins with words that answer by its rules (`IsSettled` of `lpm_trace/specs/States`). Moment t is the
 -- state after the first t steps (`at_moment`).
 
 -- ---- a version
 -- Version k is the rules after the changes of the first k updates (`rules_of_version`). It stands at a
 -- moment where its update was begun, and the next one wasn't done (`Stands`). Both are of
 -- `lpm_trace/specs/Laws`. An address shows a version at each moment (`version` of
--- `lpm_trace/specs/TableState`).
+-- `lpm_trace/specs/States`).
 
 -- ---- a legal lookup
 -- The hop is that of the longest match in the rules of the version that its address shows at a moment

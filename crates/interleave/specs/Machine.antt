@@ -89,7 +89,7 @@ pub record IsAt (first second seconds : ℕ) (machine : Machine) (script : List 
   pub sound : IsSoundFrom (2 ^ (first + second)) (is_online r.phase) left
   pub in_range : All (IsInRange (2 ^ (first + second)) second seconds) r.probes
 
--- the tables hold these words, this sequence and this token
+-- the state has these words, this sequence and this token
 pub record IsOf (first second : ℕ) (words : Words) (sequence token : ℕ) (c : InitialState)
     (w : TableState) : Type 0 where
   pub first_width : c.first ≡ first

@@ -11,7 +11,7 @@ use Rattle.lpm_trace.specs.declared.step.WriterStep.TheVariants.{BumpToken}
 use Rattle.lpm_trace.specs.Writer.{token_after}
 use Rattle.lpm_trace.specs.States.{InitialState, state_after, updates_done_in, IsSettled}
 use Rattle.lpm_update.specs.Represents.{Represents}
-use Rattle.fib_model.specs.State.{State}
+use Rattle.fib_model.specs.State.{State, initial_with}
 use Rattle.fib_model.specs.Outcomes.{Adds, Deletes, Flushes, Frees}
 use Rattle.lpm_rules.specs.RuleMap.{RuleList}
 use Rattle.lpm_writer.specs.declared.pool.GroupPool.{GroupPool}
@@ -20,7 +20,6 @@ use Rattle.lpm_writer.specs.Rest.{state_of, blank_state}
 use Rattle.lpm_writer.specs.GroupsMatch.{IsLimbo}
 use Rattle.interleave.specs.declared.reply.Reply.{Reply}
 use Rattle.interleave.specs.declared.reply.Reply.TheVariants.{Put, Deleted, Flushed, Reclaimed, Synchronized, Refused}
-use Rattle.std.specs.FinMap.{empty}
 use Rattle.lpm_limits.specs.Limits.{IsConfig}
 use Rattle.lpm_trace.specs.declared.kind.Actor.{Actor}
 use Rattle.lpm_trace.specs.declared.kind.Deed.{Deed}
@@ -40,10 +39,6 @@ use Rattle.interleave.specs.Laws.{IsLawful}
 -- what an outcome depends on, by the writer's steps
 abbrev pub StateBySteps : Type 0
 StateBySteps = State (List WriterStep)
-
--- what a writer keeps after these steps
-abbrev pub state_by_steps : RuleList → List WriterStep → GroupPool → ℕ → StateBySteps
-state_by_steps rules steps pool updates_begun = state_of rules.rules steps pool updates_begun
 
 -- the token that is started next after these steps
 abbrev pub next_token : InitialState → List WriterStep → ℕ
@@ -134,7 +129,7 @@ pub record IsPerformed (c : InitialState) (f g : ℕ) (config : Config) (n : ℕ
 
 -- there are no rules, no steps were made, no group waits, and no update was begun
 abbrev pub initial_state_by_steps : StateBySteps
-initial_state_by_steps = record { rules = empty; readers = []; limbo = []; updates_begun = 0 }
+initial_state_by_steps = initial_with []
 
 -- the steps, the newest first, of a writer that makes these changes one after another, and of workers that do
 -- the deeds of their scripts, on a table that was just opened. n items of a schedule are the writer's, and

@@ -3,11 +3,11 @@
 ghost use Rattle.std.specs.Prelude.{◌≡◌, ℕ, ◌≤◌, List, [], MatchOption, IfOk, IfErr, length};
 ghost use Rattle.lpm_trace.specs.declared.step.WriterStep.{WriterStep};
 ghost use Rattle.lpm_trace.specs.States.{InitialState};
-ghost use Rattle.lpm_writer.specs.Rest.{IsResting};
+ghost use Rattle.lpm_writer.specs.Rest.{IsResting, state_of};
 ghost use Rattle.lpm_rules.specs.declared.Change.TheVariants.{Synchronize};
 ghost use Rattle.interleave.specs.World.{writer_items, WorldDid, scripts_and_schedule};
 ghost use Rattle.interleave.specs.declared.run_error.RunError.TheVariants.{Memory as IsMemory};
-ghost use Rattle.interleave.specs.Runs.{HasTokensLeft, Waits, Answers, state_by_steps, IsPerformed};
+ghost use Rattle.interleave.specs.Runs.{HasTokensLeft, Waits, Answers, IsPerformed};
 
 use super::synchronize::synchronize;
 use super::{Reply, RunError};
@@ -34,14 +34,14 @@ pub(crate) fn answer<const FIRST: u32, const SECOND: u32>(
         control.old.versions
         → MatchOption came
         ((change.now ≡ Synchronize)
-        × HasTokensLeft c control.old.config (state_by_steps control.old.rules steps control.old.pool
+        × HasTokensLeft c control.old.config (state_of control.old.rules.rules steps control.old.pool
         control.old.versions)
         × ((later : List WriterStep) × WorldDid FIRST SECOND memory.new c later × Waits c tries steps later))
         (λ reply. (later : List WriterStep) × WorldDid FIRST SECOND memory.new c later
         × IsResting FIRST SECOND c later control.new.config control.new.rules control.new.pool
         control.new.versions
-        × Answers c FIRST SECOND control.old.config (state_by_steps control.old.rules steps control.old.pool
-        control.old.versions) change.now reply (state_by_steps control.new.rules later control.new.pool
+        × Answers c FIRST SECOND control.old.config (state_of control.old.rules.rules steps control.old.pool
+        control.old.versions) change.now reply (state_of control.new.rules.rules later control.new.pool
         control.new.versions))) }
     ensures scripts { IfOk result (λ _. scripts_and_schedule memory.new ≡ scripts_and_schedule memory.old) }
     ensures config { control.new.config ≡ control.old.config }
@@ -86,7 +86,7 @@ pub(crate) fn answer_all<const FIRST: u32, const SECOND: u32>(
         control.old.versions
         → (steps : List WriterStep) × WorldDid FIRST SECOND memory.new c steps
         × IsPerformed c FIRST SECOND control.old.config (writer_items memory.old.schedule)
-        (state_by_steps control.old.rules [] control.old.pool control.old.versions) changes.now replies.items
+        (state_of control.old.rules.rules [] control.old.pool control.old.versions) changes.now replies.items
         steps) }
     ensures scripts { IfOk result (λ _. scripts_and_schedule memory.new ≡ scripts_and_schedule memory.old) }
     ensures memory { IfErr result (λ error. error ≡ IsMemory) }

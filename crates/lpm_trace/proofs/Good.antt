@@ -5,7 +5,7 @@ use Rattle.std.specs.Bool.{⊤}
 use Rattle.lpm_cells.specs.declared.entry.Entry.TheVariants.{Group}
 use Rattle.lpm_cells.specs.Words.{entry_in, hop_in, last_entry}
 use Rattle.lpm_trace.specs.States.{InitialState, TableState, Status, Unused, Linked, Retired, addresses, answer, updates_done_in, updates_begun_in, first_entry, begun_at, done_at}
-use Rattle.lpm_trace.specs.Trace.{Worker, Phase, Offline, ComingOnline, Online, LookingUp, ReportingQuiescent, Probe, Unread, InGroup, Answered, FinishedLookup, IsRunning, read_first, first_read, second_read, with_answers, worker_by_step, IsNextFirst, IsNextSecond, AreAnswered, MayRead}
+use Rattle.lpm_trace.specs.Trace.{Worker, Phase, Offline, ComingOnline, Online, LookingUp, ReportingQuiescent, Probe, Unread, InGroup, Answered, FinishedLookup, read_first, first_read, second_read, with_answers, worker_by_step, IsNextFirst, IsNextSecond, AreAnswered, MayRead}
 use Rattle.lpm_trace.proofs.Versions.{Each, each_map}
 use Rattle.std.proofs.lemmas.List.Elements.{All-head, All-tail}
 use Rattle.lpm_cells.specs.declared.entry.Entry.{Entry}
@@ -14,6 +14,14 @@ use Rattle.lpm_trace.specs.declared.step.WorkerStep.TheVariants.{LoadOnline, Sto
 
 abbrev pub Told : Type 1
 Told = ℕ → ℕ → ℕ → Option ℕ → Type 0
+
+-- a reader interval runs
+abbrev pub IsRunning : Phase → Type 0
+IsRunning Offline = ⊥
+IsRunning (ComingOnline loaded) = ⊥
+IsRunning Online = ⊤
+IsRunning LookingUp = ⊤
+IsRunning (ReportingQuiescent loaded) = ⊤
 
 -- a token that was loaded and is not yet stored is one that was there
 abbrev pub LoadedAs : ℕ → ℕ → Phase → Type 0
@@ -58,7 +66,7 @@ pub record HalfOk (c : InitialState) (A : Told) (w : TableState) (since lo : ℕ
   pub value : (first_entry w.words (a / 2 ^ c.second) ≡ Group g)
       ⊎ ((f < w.unlinked g) × ((t : ℕ) × (f ≤ t) × (t ≤ w.clock) × A t a lo (hop_in (entry_in (slice_index w.words.seconds (second_place c a g))))))
 
--- the same by another telling, and of other tables, where what was read in it is known
+-- the same by another telling, and of another state, where what was read in it is known
 pub half_by : (c : InitialState) (A B : Told) (w w' : TableState) (since lo : ℕ) (phase : Phase) (a g f : ℕ) → w.clock ≤ w'.clock → updates_done_in w ≤ updates_done_in w' → HalfOk c A w since lo phase a g f
     → (first_entry w'.words (a / 2 ^ c.second) ≡ Group g)
     ⊎ ((f < w'.unlinked g) × ((t : ℕ) × (f ≤ t) × (t ≤ w'.clock) × B t a lo (hop_in (entry_in (slice_index w'.words.seconds (second_place c a g))))))

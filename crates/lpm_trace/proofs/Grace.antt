@@ -10,7 +10,8 @@ use Rattle.lpm_trace.specs.declared.step.WorkerStep.TheVariants.{LoadOnline, Sto
 use Rattle.lpm_trace.specs.declared.step.TraceStep.{TraceStep}
 use Rattle.lpm_trace.specs.declared.step.TraceStep.TheVariants.{Writer, Worker as ByWorker}
 use Rattle.lpm_trace.specs.States.{InitialState, TableState, IsSettled, first_entry, with_stamp, oldest, state_after}
-use Rattle.lpm_trace.specs.Trace.{Worker, worker_by_step, MayRead, IsRunning, after, IsTrace, writes}
+use Rattle.lpm_trace.specs.Trace.{Worker, worker_by_step, MayRead, after, IsTrace, writes}
+use Rattle.lpm_trace.proofs.Good.{IsRunning}
 use Rattle.lpm_trace.specs.Laws.{begins, ends, by_steps, Unlinks, ReuseIsLawful}
 use Rattle.lpm_trace.proofs.Versions.{with_at-same, by_number}
 use Rattle.lpm_trace.proofs.WriterStores.{stamped_le, stamped_ge}

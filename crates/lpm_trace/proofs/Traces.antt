@@ -7,10 +7,10 @@ use Rattle.lpm_trace.specs.declared.step.WriterStep.TheVariants.{StoreFirst, Sto
 use Rattle.lpm_trace.specs.declared.step.TraceStep.{TraceStep}
 use Rattle.lpm_trace.specs.declared.step.TraceStep.TheVariants.{Writer, Worker as ByWorker}
 use Rattle.lpm_trace.specs.States.{InitialState, TableState, IsSettled, addresses, with_at, answer, IsAnswer, updates_done_in, updates_begun_in, version, rules_by, state_by_step, initial_table_state, oldest, state_after, state_at, MayWrite}
-use Rattle.lpm_trace.specs.Trace.{Worker, Probe, Unread, InGroup, Answered, FinishedLookup, initial_worker, worker_by_step, MayRead, IsRunning, MayCome, after, IsTrace, writes, own_steps, worker_by}
+use Rattle.lpm_trace.specs.Trace.{Worker, Probe, Unread, InGroup, Answered, FinishedLookup, initial_worker, worker_by_step, MayRead, MayCome, after, IsTrace, writes, own_steps, worker_by}
 use Rattle.lpm_trace.specs.Laws.{IsLegalAtPlace, OwnLookupsAreLegal, ArePlaced, OwnStepsArePlaced, VersionsNeverFallAtPlaces, PlacesNeverFall, TraceGrows}
-use Rattle.lpm_trace.proofs.Versions.{by_number, Each, each_map, with_at_case, each_all, Shows, keeps_shows, opening_shows, version_ge, version_le, rises, sequence_grows, history_stays, tick}
-use Rattle.lpm_trace.proofs.Good.{Told, half_by, ProbeOk, FinishedOk, WorkerOk, Good, worker_moves}
+use Rattle.lpm_trace.proofs.Versions.{by_number, Each, each_map, with_at_case, each_all, Shows, keeps_shows, initial_shows, version_ge, version_le, rises, sequence_grows, history_stays, tick}
+use Rattle.lpm_trace.proofs.Good.{Told, half_by, ProbeOk, FinishedOk, WorkerOk, Good, worker_moves, IsRunning}
 use Rattle.lpm_trace.proofs.WriterStores.{keeps_first, keeps_second, held_not_filled, keeps_quiet, keeps_counter}
 use Rattle.std.proofs.lemmas.List.Elements.{All-nil, All-cons, All-head, All-tail, All-weaker}
 use Rattle.std.proofs.lemmas.List.Kept.{AllPairs-cons}

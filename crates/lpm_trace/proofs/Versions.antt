@@ -50,7 +50,7 @@ pub each_all : {A : Type 0} (P : A → Type 0) (xs : List A) → Each P xs → A
 each_all P [] h = All-nil P
 each_all P (x ∷ xs) h = All-cons P x xs h.0 (each_all P xs h.1)
 
--- What is counted over the writer's steps is what the tables say.
+-- What is counted over the writer's steps is what the state says.
 
 pub token_is : (c : InitialState) (steps : List WriterStep) → (state_after c steps).token ≡ token_after c.token steps
 token_is c [] = refl

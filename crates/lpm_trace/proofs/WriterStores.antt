@@ -3,9 +3,9 @@ use Rattle.std.proofs.Common.{◌≡◌, ℕ, suc, ◌+◌, ◌/◌, ◌<◌, �
 use Rattle.std.proofs.lemmas.Bool.Decides.{leb_tells}
 use Rattle.lpm_trace.specs.declared.step.WriterStep.TheVariants.{LoadCounter, StoreFirst, StoreSecond}
 use Rattle.lpm_trace.specs.States.{InitialState, TableState, addresses, Status, Unused, Linked, Retired, answer, updates_done_in, updates_begun_in, state_by_step, lets_pass, MayWrite, first_entry, with_linked, with_retired, with_stamp, MayLink, MayFill, IsFree}
-use Rattle.lpm_trace.specs.Trace.{Worker, Phase, ReportingQuiescent, IsRunning}
+use Rattle.lpm_trace.specs.Trace.{Worker, Phase, ReportingQuiescent}
 use Rattle.lpm_rules.specs.RuleMap.{RuleMap}
-use Rattle.lpm_trace.proofs.Good.{Told, half_by, HeldAs, Good, worker_stays, running_counter, LoadedAs, IsStaleAs, second_place, HalfOk, WorkerOk}
+use Rattle.lpm_trace.proofs.Good.{Told, half_by, HeldAs, Good, worker_stays, running_counter, LoadedAs, IsStaleAs, second_place, HalfOk, WorkerOk, IsRunning}
 use Rattle.std.proofs.lemmas.Nat.{div-mul-add, pow_pos}
 use Rattle.std.proofs.Math.Nat.{mod-lt}
 use Rattle.lpm_cells.specs.declared.entry.Entry.{Entry}
@@ -15,7 +15,7 @@ use Rattle.lpm_trace.proofs.Versions.{by_number, with_at_case, with_at-same, wit
 
 -- The sequence, the token and the checks keep what holds.
 
--- the tables with the words and the groups as they were
+-- the state with the words and the groups as they were
 abbrev pub quiet : TableState → ℕ → (ℕ → RuleMap) → (ℕ → Bool) → ℕ → TableState
 quiet w sequence history answer_changed token = record w { clock = suc w.clock; sequence = sequence; history = history; answer_changed = answer_changed; token = token }
 

@@ -19,7 +19,7 @@ use Rattle.lpm_trace.specs.Trace.{FinishedLookup, MayRead, MayCome, after, IsTra
 
 -- ---- answers
 
--- the tables at a moment: after the first t steps
+-- the state at a moment: after the first t steps
 abbrev pub at_moment : InitialState → List TraceStep → ℕ → TableState
 at_moment c steps t = state_after c (writes (oldest t steps))
 

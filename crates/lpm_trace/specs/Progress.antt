@@ -29,7 +29,7 @@ pub record WriterProgress : Type 0 where
 abbrev pub initial_progress : WriterProgress
 initial_progress = record { next_step = Nothing; awaited = None; reclaims = false; taken = None }
 
--- ---- the course after a step
+-- ---- the progress after a step
 
 -- what is due after a store over this first word
 abbrev pub next_after_store : Entry → NextStep
@@ -67,7 +67,7 @@ progress_after_load c progress token worker counter =
     then (if suc worker == c.workers then progress_after_pass progress else record progress { next_step = Check token })
     else progress_after_stop progress progress.awaited
 
--- the course after a step of the writer
+-- the progress after a step of the writer
 abbrev pub progress_by_step : InitialState → TableState → WriterProgress → WriterStep → WriterProgress
 progress_by_step c w progress (StoreFirst i x) =
     record progress { next_step = next_after_store (first_entry w.words i); reclaims = false }

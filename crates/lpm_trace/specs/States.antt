@@ -86,8 +86,8 @@ abbrev pub updates_begun_in : TableState → ℕ
 updates_begun_in w = begun_at w.sequence
 
 -- the version that an address shows: `updates_done_in` until its answer has changed in the update that runs,
--- and `updates_begun_in` from that store on. That it is told by which address has turned matters to no law: it is the
--- function of which the promise says that there is one.
+-- and `updates_begun_in` from that store on. That it is told by which address has changed its answer matters to no
+-- law: it is the function of which the promise says that there is one.
 abbrev pub version : TableState → ℕ → ℕ
 version w a = if w.answer_changed a then updates_begun_in w else updates_done_in w
 
@@ -97,7 +97,7 @@ rules_by R (Put bits len hop) = insert R (record { bits = bits; len = len }) hop
 rules_by R (TakeOut bits len) = remove R (record { bits = bits; len = len })
 rules_by R Clear = empty
 
--- ---- the tables after a step
+-- ---- the state after a step
 
 abbrev pub is_same : Option ℕ → Option ℕ → Bool
 is_same None None = true
@@ -105,7 +105,7 @@ is_same (Some x) (Some y) = x == y
 is_same None (Some y) = false
 is_same (Some x) None = false
 
--- which addresses have turned, when the words become z
+-- which addresses have changed their answer, when the words become z
 abbrev pub answer_changed_by : InitialState → TableState → Words → ℕ → Bool
 answer_changed_by c w z a = if is_same (answer c w.words a) (answer c z a) then w.answer_changed a else true
 
@@ -135,7 +135,7 @@ lets_pass token counter = if counter == 0 then true else nat_le token counter
 abbrev pub first_entry : Words → ℕ → Entry
 first_entry t i = entry_in (slice_index t.firsts i)
 
--- the tables after a step of the writer
+-- the state after a step of the writer
 abbrev pub state_by_step : InitialState → TableState → WriterStep → TableState
 state_by_step c w (StoreFirst i x) = record w {
   clock = suc w.clock;
@@ -180,7 +180,7 @@ initial_table_state c = record {
   passed = 0;
 }
 
--- the tables after these steps of the writer, of which the newest stands first
+-- the state after these steps of the writer, of which the newest stands first
 abbrev pub state_after : InitialState → List WriterStep → TableState
 state_after c [] = initial_table_state c
 state_after c (s ∷ steps) = state_by_step c (state_after c steps) s
@@ -190,7 +190,7 @@ abbrev pub oldest : {A : Type 0} → ℕ → List A → List A
 oldest t [] = []
 oldest t (s ∷ steps) = if nat_le t (length steps) then oldest t steps else s ∷ steps
 
--- the tables after the first t of these steps of the writer
+-- the state after the first t of these steps of the writer
 abbrev pub state_at : InitialState → List WriterStep → ℕ → TableState
 state_at c steps t = state_after c (oldest t steps)
 

@@ -141,7 +141,7 @@ IsBetweenDeeds Online = ⊤
 IsBetweenDeeds LookingUp = ⊥
 IsBetweenDeeds (ReportingQuiescent loaded) = ⊥
 
--- the worker's step may come next, where the tables are these
+-- the worker's step may come next, in this state of the table
 abbrev pub MayRead : InitialState → TableState → Worker → WorkerStep → Type 0
 MayRead c w r (LoadOnline token) = (r.phase ≡ Offline) × (token ≡ w.token)
 MayRead c w r (StoreOnline token) = r.phase ≡ ComingOnline token
@@ -156,14 +156,6 @@ MayRead c w r (LoadSecond word) =
 MayRead c w r (EndLookup sequence) =
     (r.phase ≡ LookingUp) × AreAnswered r.probes × (sequence ≡ w.sequence)
 MayRead c w r (MeetWriter sequence) = IsBetweenDeeds r.phase × (sequence ≡ w.sequence)
-
--- a reader interval runs
-abbrev pub IsRunning : Phase → Type 0
-IsRunning Offline = ⊥
-IsRunning (ComingOnline loaded) = ⊥
-IsRunning Online = ⊤
-IsRunning LookingUp = ⊤
-IsRunning (ReportingQuiescent loaded) = ⊤
 
 pub record World : Type 0 where
   pub state : TableState

@@ -36,7 +36,7 @@ first_word_after initial (StoreFirst i word ∷ steps) block =
     if i == block then word else first_word_after initial steps block
 first_word_after initial (other ∷ steps) block = first_word_after initial steps block
 
--- the writer's course after these steps of its own
+-- the writer's progress after these steps of its own
 abbrev pub progress_after : InitialState → List WriterStep → WriterProgress
 progress_after c [] = initial_progress
 progress_after c (s ∷ steps) = progress_by_step c (state_after c steps) (progress_after c steps) s

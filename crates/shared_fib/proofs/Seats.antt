@@ -1,7 +1,6 @@
 -- The passes of a bench after one of them was taken or put back.
-use Rattle.std.proofs.Common.{ℕ, ◌≡◌, ◌+◌, ◌<◌, inl, inr, refl, ap, sym, subst, ◌∙◌, arith, List, [], ◌∷◌, ◌++◌, length, get_or, slice_get, Option, Some, None, zero, suc}
-use Rattle.std.proofs.lemmas.Bool.{cases_lt}
-use Rattle.std.proofs.lemmas.List.{get_or_append_left, get_or_at, length-set}
+use Rattle.std.proofs.Common.{ℕ, ◌≡◌, ◌<◌, inl, inr, refl, ap, sym, subst, ◌∙◌, arith, List, [], ◌∷◌, length, get_or, slice_get, Option, Some, None, zero, suc}
+use Rattle.std.proofs.lemmas.List.{length-set}
 use Rattle.std.proofs.lemmas.Option.{none-some, same_Some, slice_get_within, slice_get-get_or, slice_get_read}
 use Rattle.atomic_table.specs.Seated.{TableId}
 use Rattle.shared_words.specs.declared.view.View.{View}
@@ -25,14 +24,6 @@ module _ (words : TableId) (v : View) where
   -- the passes of the first n workers
   abbrev pub AreMade : ℕ → List (Option PassState) → Type 0
   AreMade n passes = (k : ℕ) → k < n → (other : Option PassState) → get_or passes k other ≡ Some (pass_of k)
-
-  pub one_more : (n : ℕ) (passes : List (Option PassState)) (p : PassState) → length passes ≡ n → AreMade n passes → p ≡ pass_of n
-      → AreMade (n + 1) (passes ++ Some p ∷ [])
-  one_more n passes p count all one k low other = elim (cases_lt k n) [
-    | inl below ↦ get_or_append_left passes (Some p ∷ []) other k (omega (arith, below, count)) ∙ all k below other
-    | inr above ↦ let here : k ≡ n = omega (arith, low, above) in
-        get_or_at passes (Some p) [] other k (omega (arith, here, count)) ∙ ap Some (one ∙ ap pass_of (sym here))
-  ]
 
   abbrev identity : Identity
   identity = record { words = words; initial = v.initial }

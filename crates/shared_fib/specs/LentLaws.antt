@@ -6,7 +6,8 @@ use Rattle.lpm_trace.specs.Writer.{MayStep}
 use Rattle.lpm_writer.specs.Plain.{MayBeNext}
 use Rattle.shared_words.specs.declared.view.View.{View}
 use Rattle.shared_words.specs.Layout.{initial_state_of}
-use Rattle.shared_fib.specs.LentSeats.{LentSeat, SharedMay, SharedDid, SharedDoes, state_of_lent}
+use Rattle.shared_words.specs.Seats.{MayFollow}
+use Rattle.shared_fib.specs.LentSeats.{LentSeat, SharedDid, SharedDoes, state_of_lent}
 
 pub shared_follows : (m : LentSeat) (s : WriterStep) (z : LentSeat) (c : InitialState) (steps : List WriterStep)
     → SharedDoes s m z → SharedDid m c steps → MayStep c steps s → SharedDid z c (s ∷ steps)
@@ -29,7 +30,7 @@ shared_shows m c steps did = (
   ap (λ (z : InitialState). z.workers) (sym did.initial),
 )
 
-pub shared_may : (m : LentSeat) (s : WriterStep) → MayBeNext SharedDid m s → SharedMay m s
+pub shared_may : (m : LentSeat) (s : WriterStep) → MayBeNext SharedDid m s → MayFollow m.view s
 shared_may m s may =
     let did = may.2 in
     subst (λ (z : InitialState × List WriterStep). MayStep z.0 z.1 s)

@@ -5,7 +5,7 @@ use Rattle.std.specs.Coded.{Coded, code_by, coded×, coded_ℕ}
 use Rattle.atomic_table.specs.Seated.{TableId, table_id_coded}
 use Rattle.lpm_trace.specs.declared.step.WriterStep.{WriterStep}
 use Rattle.lpm_trace.specs.States.{InitialState, TableState, updates_begun_in}
-use Rattle.lpm_trace.specs.Writer.{token_after, passed_after, IsWritten, MayStep}
+use Rattle.lpm_trace.specs.Writer.{token_after, passed_after, IsWritten}
 use Rattle.shared_words.specs.declared.view.View.{View}
 use Rattle.shared_words.specs.contracts.view.View as view_row
 use Rattle.shared_words.specs.Layout.{initial_state_of}
@@ -39,10 +39,6 @@ pub record IsAt (v : View) (token : ℕ) : Type 0 where
   pub newest : token ≡ (state_of_view v).token
   pub token_low : token ≤ 2 ^ 62
   pub few : updates_begun_in (state_of_view v) ≤ 2 ^ 61
-
--- the step may come next
-abbrev pub SharedMay : LentSeat → WriterStep → Type 0
-SharedMay m s = MayStep (initial_state_of m.view.initial) m.view.writer_steps s
 
 -- the steps are those of the seat, each of which might come
 pub record SharedDid (m : LentSeat) (c : InitialState) (steps : List WriterStep) : Type 0 where

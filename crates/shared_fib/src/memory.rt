@@ -7,13 +7,14 @@ use lpm_writer::Memory;
 
 impl<'a, const FIRST: u32, const SECOND: u32> Cells for SharedMemory<'a, FIRST, SECOND> {
     ghost use Rattle.lpm_trace.specs.declared.step.WriterStep.TheVariants.{StoreFirst, StoreSecond};
-    ghost use Rattle.shared_fib.specs.LentSeats.{SharedMay, SharedDoes, state_of_lent};
+    ghost use Rattle.shared_fib.specs.LentSeats.{SharedDoes, state_of_lent};
+    ghost use Rattle.shared_words.specs.Seats.{MayFollow};
 
     ghost words = { λ m. (state_of_lent m).words };
 
-    ghost may_set_first = { λ m i w. SharedMay m (StoreFirst i w) };
+    ghost may_set_first = { λ m i w. MayFollow m.view (StoreFirst i w) };
 
-    ghost may_set_second = { λ m i w. SharedMay m (StoreSecond i w) };
+    ghost may_set_second = { λ m i w. MayFollow m.view (StoreSecond i w) };
 
     ghost sets_first = { λ m i w z. SharedDoes (StoreFirst i w) m z };
 

@@ -221,7 +221,7 @@ module _ (o : InitialData) where
 
   -- ---- the steps
 
-  -- the opening of a worker's view is the table's
+  -- a worker's view begins as the table does
   pub initial_is : (s : St) (h : Holds o s) (id k : ℕ) (v : View) → get_elem? s.views id ≡ some v
       → v.role ≡ Worker k → v.initial ≡ o
   initial_is s h id k v at is = (sits_of s h id k v at is).1

@@ -70,9 +70,9 @@ aside o steps seating me step mine j u other (Worker k) h = h
 aside o steps seating me step mine j u other Note h = tt
 
 module _ (o : InitialData) where
-  -- the tables and the world after these steps
-  abbrev tables_by : List WriterStep → TableState
-  tables_by seen = state_after (initial_state_of o) seen
+  -- the state and the world after these steps
+  abbrev state_after_writer : List WriterStep → TableState
+  state_after_writer seen = state_after (initial_state_of o) seen
 
   abbrev world_by : List TraceStep → World
   world_by steps = after (initial_state_of o) steps

@@ -9,7 +9,7 @@ use Rattle.lpm_writer.proofs.StepsAlone.{adds_alone, deletes_alone, flushes_alon
 use Rattle.interleave.specs.View.{WorldView}
 use Rattle.interleave.specs.World.{WorldDid, scripts_and_schedule}
 use Rattle.interleave.specs.declared.reply.Reply.{Reply}
-use Rattle.interleave.specs.Runs.{Answers, state_by_steps}
+use Rattle.interleave.specs.Runs.{Answers}
 use Rattle.interleave.proofs.Ends.{ScriptsAndSchedule, does_in, stays}
 use Rattle.interleave.proofs.outcomes.answer.Goals as goal
 use Rattle.interleave.proofs.outcomes.answer.Goals.{in-Add+in-Ok, in-Add+in-Err+in_default, in-Delete+in-Ok-delete_rule, in-Delete+in-Err-delete_rule, in-Flush+in-Ok-flush_rules, in-Flush+in-Err-flush_rules, in-Reclaim}
@@ -36,7 +36,7 @@ returns-clause-replies g c = λ initial steps did rests.
     state_of {X = WithSteps WorldView} l.rules.rules (m, later) l.pool l.versions in
     let Came : Change f s → WorldView → ControlState f s → Reply → Type 0 = λ change m l r. (later : List WriterStep) × WorldDid f s m initial later
     × IsResting f s initial later l.config l.rules l.pool l.versions
-    × Answers initial f s config (state_by_steps old.rules steps old.pool old.versions) change r (state_by_steps l.rules later l.pool l.versions) in
+    × Answers initial f s config (state_of old.rules.rules steps old.pool old.versions) change r (state_of l.rules.rules later l.pool l.versions) in
     elim c.match-change.branch [
       | in-Add+in-Ok w ↦ carried Came w.in-Add.is w.memory-is w.control-is w.reply-is
           (came (w.in-Ok.ensures.adds initial steps did rests) (λ later does. (adds_alone WorldView (does_in f s) initial ScriptsAndSchedule scripts_and_schedule (stays f s) kind f s config before
@@ -121,6 +121,6 @@ returns-in-Synchronize-clause-replies g c = λ initial steps did rests.
       now.0,
       now.1,
       now.2,
-      subst (λ change. Answers initial f s old.config (state_by_steps old.rules steps old.pool old.versions) change reply (state_by_steps l.rules now.0 l.pool l.versions)) (sym c.in-Synchronize.is) now.3,
+      subst (λ change. Answers initial f s old.config (state_of old.rules.rules steps old.pool old.versions) change reply (state_of l.rules.rules now.0 l.pool l.versions)) (sym c.in-Synchronize.is) now.3,
     ))
     (c.synchronize.ensures.replies initial steps did rests)
