@@ -2,7 +2,8 @@
 use Rattle.std.proofs.Common.{arith, ℕ, ◌≡◌, ◌≢◌, ◌<◌, ◌∙◌, List, [], ◌∷◌, ◌++◌, length, get_or, sym, ap}
 use Rattle.std.proofs.Math.ListN.{set}
 use Rattle.std.proofs.lemmas.List.{get_or-set_other, get_or-set_same}
-use Rattle.defer_queue.specs.RetiredGroups.{IsAbsent, AreRetired}
+use Rattle.defer_queue.specs.RetiredGroups.{IsAbsent}
+use Rattle.core_tests.specs.RetiredGroups.{AreRetired}
 
 -- a write for a group that has no item
 pub AreRetired-set : (tokens : List ℕ) (items : List (ℕ × ℕ)) (group token : ℕ)

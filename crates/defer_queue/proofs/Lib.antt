@@ -1,2 +1,1 @@
 pub mod Longest
-pub mod Retirement

@@ -3,6 +3,8 @@
 use super::rule_lists::Plain;
 use lpm_limits::Config;
 use lpm_rules::Put;
+use lpm_writer::OpenError;
+use std::alloc::Global;
 
 /// 0.0.0.0/0, 10.0.0.0/8, 10.1.0.0/16 twice and 10.1.1.128/25.
 pub static ROUTES: [Plain; 5] = [
@@ -19,6 +21,18 @@ pub static THREE: [Plain; 3] = [
     (0x0a01_0000, 16, 2),
     (0x0a01_0180, 25, 3),
 ];
+
+/// 10.1.1.128, 11.0.0.0, 10.1.1.127 and 10.2.0.0.
+pub const FOUR: [u32; 4] = [0x0a01_0180, 0x0b00_0000, 0x0a01_017f, 0x0a02_0000];
+
+/// The numbers of their next hops by the three routes; none for a miss.
+pub static FOUR_NUMBERS: [Option<u32>; 4] = [Some(3), None, Some(2), Some(1)];
+
+/// The default of a lookup of four addresses at once: the number for a miss.
+pub const DEFAULT_HOP: u32 = 99;
+
+/// The same numbers, with the default for the miss.
+pub const FOUR_HOPS: [u32; 4] = [3, DEFAULT_HOP, 2, 1];
 
 /// An address, and the number of its next hop.
 pub type Row = (u32, u32);
@@ -67,13 +81,14 @@ pub enum Change {
     Delete,
 }
 
-const ADDED: Change = Change::Add(Put::Added);
+pub(crate) const ADDED: Change = Change::Add(Put::Added);
 
 /// A change, its rule, and three addresses with their next hops after it.
 pub type Step = (Change, Plain, &'static [Row]);
 
-/// Changes of a table with the routes. A rule in the block that has a group, one in another block, another next hop
-/// of 10.0.0.0/8, and 172.16.0.0/12. Then 10.1.0.0/16 and the two longer rules in it go. A rule in another block has their group.
+/// Changes of a table with the routes. A rule in the block that has a group, one in another block, another
+/// next hop of 10.0.0.0/8, and 172.16.0.0/12. Then 10.1.0.0/16 and the two longer rules in it go. A rule in
+/// another block has their group.
 pub static STEPS: [Step; 8] = [
     (
         ADDED,
@@ -141,16 +156,30 @@ pub fn limits(rules: usize, groups: usize) -> Config {
     }
 }
 
-/// Rules, limits, and whether a table opens with these rules within them. Each list has a row where the rules just
-/// fit, and one with too few of a limit.
-pub fn rooms() -> [(&'static [Plain], Config, bool); 5] {
+/// Rules, limits, and what comes of opening a table with these rules within them: it opens, there are more rules or
+/// blocks than it may have, or the limits are refused.
+pub type Opening = (&'static [Plain], Config, Result<bool, OpenError>);
+
+// Each list has a row where the rules just fit, and one with too few of a limit.
+fn rooms() -> [Opening; 5] {
     [
-        (&DEEP, limits(7, 3), true),
-        (&DEEP, limits(6, 3), false),
-        (&DEEP, limits(7, 2), false),
-        (&SHORT, limits(2, 1), true),
-        (&SHORT, limits(1, 1), false),
+        (&DEEP, limits(7, 3), Ok(true)),
+        (&DEEP, limits(6, 3), Ok(false)),
+        (&DEEP, limits(7, 2), Ok(false)),
+        (&SHORT, limits(2, 1), Ok(true)),
+        (&SHORT, limits(1, 1), Ok(false)),
     ]
+}
+
+/// Openings where the rules just fit, where there are too few of a limit, and where one is just outside its range.
+/// `None` without memory.
+pub fn openings(alloc: Global) -> Option<Vec<Opening>> {
+    let mut openings = Vec::from_slice(alloc, &rooms()).ok()?;
+    for config in bad_limits() {
+        let refused = Err(OpenError::BadConfig);
+        openings.push((&DEEP, config, refused)).ok()?;
+    }
+    Some(openings)
 }
 
 /// Limits around seven rules and three groups. Each has one just outside its range, and the last too few rules

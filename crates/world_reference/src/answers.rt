@@ -81,7 +81,12 @@ pub fn lookups(
 }
 
 /// Whether the version is one from `lo` to `hi`, and its answer is the one that was seen.
-fn is_by_version(initial: &InitialState, versions: &Versions, version: usize, seen: &Seen) -> bool {
+fn is_by_version(
+    initial: &InitialState,
+    versions: &Versions,
+    version: usize,
+    seen: &FinishedLookup,
+) -> bool {
     let number = version as u64;
     let is_within = seen.lo <= number && number <= seen.hi;
     is_within && is_answer(initial, versions, version, seen.addr, seen.hop)
@@ -89,7 +94,12 @@ fn is_by_version(initial: &InitialState, versions: &Versions, version: usize, se
 
 /// Whether a finished lookup is legal: its answer is that of a version that stood at a moment from
 /// the read of its first word to the read of its last, and that version lies from `lo` to `hi`.
-pub fn is_legal(initial: &InitialState, versions: &Versions, steps: &[Step], seen: &Seen) -> bool {
+pub fn is_legal(
+    initial: &InitialState,
+    versions: &Versions,
+    steps: &[Step],
+    seen: &FinishedLookup,
+) -> bool {
     for made in seen.first..=seen.last.min(steps.len()) {
         let now = Moment::new(initial, steps, made);
         let is_by_either = is_by_version(initial, versions, now.done(), seen)
@@ -102,7 +112,12 @@ pub fn is_legal(initial: &InitialState, versions: &Versions, steps: &[Step], see
 }
 
 /// Whether a finished lookup answers by the version that its address shows at a moment of its span.
-fn is_by_shown(initial: &InitialState, versions: &Versions, steps: &[Step], seen: &Seen) -> bool {
+fn is_by_shown(
+    initial: &InitialState,
+    versions: &Versions,
+    steps: &[Step],
+    seen: &FinishedLookup,
+) -> bool {
     for made in seen.first..=seen.last.min(steps.len()) {
         let version = Moment::new(initial, steps, made).version(seen.addr);
         if is_answer(initial, versions, version, seen.addr, seen.hop) {

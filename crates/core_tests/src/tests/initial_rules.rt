@@ -13,8 +13,8 @@ use lpm_writer::OpenError;
 use std::alloc::Global;
 use std::process::Abort;
 use test_support::{
-    AMPLE, Change, DEEP, Drawing, HOPS, LIMITS, Plain, ROUTES, STEPS, Step, are_in_order,
-    bad_limits, drawn_rules, hop, limits, prefix, probes, rooms, rule_of, rules_of,
+    AMPLE, Change, DEEP, Drawing, HOPS, LIMITS, Opening, Plain, ROUTES, STEPS, Step, are_in_order,
+    drawn_rules, hop, limits, openings, prefix, probes, rule_of, rules_of,
 };
 
 // The table that opens with these rules, which are in order and fit.
@@ -142,14 +142,9 @@ fn is_opened(opened: Result<Option<Fib<4, 4>>, OpenError>) -> Result<bool, OpenE
     }
 }
 
-// Both calls open a table within these limits, or neither, or both refuse them.
-fn assert_opens(
-    rt: &impl Abort,
-    alloc: Global,
-    plain: &[Plain],
-    config: Config,
-    opens: Result<bool, OpenError>,
-) {
+// This comes of both calls.
+fn assert_opens(rt: &impl Abort, alloc: Global, opening: &Opening) {
+    let (plain, config, opens) = *opening;
     let rules = rules_of::<4, 4>(alloc, plain).expect(rt, "rules");
     assert_at(
         rt,
@@ -159,18 +154,11 @@ fn assert_opens(
     );
 }
 
-// A table has just as many rules or groups as it may have, and not one more.
 #[test]
-fn limits_that_suffice(rt: HostRuntime) {
-    for (plain, config, opens) in rooms() {
-        assert_opens(&rt, rt.alloc(), plain, config, Ok(opens));
-    }
-}
-
-#[test]
-fn limits_out_of_range(rt: HostRuntime) {
-    for config in bad_limits() {
-        assert_opens(&rt, rt.alloc(), &DEEP, config, Err(OpenError::BadConfig));
+fn limits_and_rules(rt: HostRuntime) {
+    let openings = openings(rt.alloc()).expect(&rt, "memory");
+    for opening in &openings {
+        assert_opens(&rt, rt.alloc(), opening);
     }
 }
 

@@ -1,7 +1,7 @@
 ghost use Rattle.std.specs.Prelude.{◌≡◌};
 ghost use Rattle.qsbr.specs.Counters.{IsChecked};
-ghost use Rattle.defer_queue.specs.RetiredGroups.{AreRetired};
 ghost use Rattle.defer_queue.specs.Longest.{TakesLongest};
+ghost use Rattle.core_tests.specs.RetiredGroups.{AreRetired};
 
 use super::asserts::assert_at;
 use defer_queue::{DeferQueue, Grace, Reclaimed};
@@ -21,7 +21,8 @@ struct TablePart<'a> {
 impl Grace for TablePart<'_> {
     ghost use Rattle.std.specs.Prelude.{◌≡◌, ◌<◌, [], ◌∷◌, slice_index, slice_set};
     ghost use Rattle.qsbr.specs.Counters.{IsChecked};
-    ghost use Rattle.defer_queue.specs.RetiredGroups.{AreRetired, IsAbsent};
+    ghost use Rattle.defer_queue.specs.RetiredGroups.{IsAbsent};
+    ghost use Rattle.core_tests.specs.RetiredGroups.{AreRetired};
 
     ghost lent = { λ s. s.tokens.ghost_name ∷ [] };
 
@@ -110,7 +111,12 @@ fn assert_first_given_up(
 }
 
 // A reclaim that remembers nothing.
-fn reclaim(domain: &Domain, queue: &mut DeferQueue, tokens: &mut Vec<u64>, max: usize) -> Reclaimed
+fn reclaim_by(
+    domain: &Domain,
+    queue: &mut DeferQueue,
+    tokens: &mut Vec<u64>,
+    max: usize,
+) -> Reclaimed
     requires { AreRetired tokens.old.items queue.old.items }
     ensures retired { AreRetired tokens.new.items queue.new.items }
     ensures longest { TakesLongest (λ token r. IsChecked token domain.now.counters r)

@@ -208,7 +208,7 @@ fn filled_with_many(rt: HostRuntime) {
 }
 
 // What comes of a rule that is put into the list.
-fn put(rt: &impl Abort, list: &mut Rules<4, 4>, plain: Plain) -> Result<Put, RuleFault> {
+fn put_rule(rt: &impl Abort, list: &mut Rules<4, 4>, plain: Plain) -> Result<Put, RuleFault> {
     let rule = rule_of::<4, 4>(plain).expect(rt, "a rule");
     list.put(&rule.prefix, rule.hop)
 }
@@ -219,8 +219,8 @@ fn assert_full(rt: &impl Abort, list: &mut Rules<4, 4>) {
     let hops = [list.longest(0x11), list.longest(0x12)];
     let numbers = [hop_number(hops[0]), hop_number(hops[1])];
     assert_at(rt, "hops", numbers, [Some(3), Some(5)]);
-    let new = put(rt, list, (0x20, 4, 9));
-    let old = put(rt, list, (0x10, 4, 9));
+    let new = put_rule(rt, list, (0x20, 4, 9));
+    let old = put_rule(rt, list, (0x10, 4, 9));
     assert_at(
         rt,
         "put",

@@ -7,14 +7,17 @@ use fib_model::{Account, Order, Outcome, expected};
 use lpm_bits::{Hop, Shape};
 use lpm_groups::Counts;
 use lpm_limits::{BadConfig, Busy, Config, Refusal};
-use lpm_rules::Put;
+use lpm_rules::{Put, Rule};
 use lpm_writer::OpenError;
 use route_text::{outcomes_text, read_updates_v1};
 use std::alloc::{AllocError, Global};
 use std::net::Ipv4Addr;
 use std::process::Abort;
 use std::test::Fail;
-use test_support::{Row, USUAL, draw, hop, hop_number, limits, other_hop, prefix};
+use test_support::{
+    DEFAULT_HOP, FOUR, FOUR_HOPS, FOUR_NUMBERS, Row, THREE, USUAL, draw, hop, hop_number, limits,
+    other_hop, prefix, rule_of,
+};
 
 /// The rules, versions, groups in use, groups in limbo, free groups and the token number.
 pub(crate) type Figures = (usize, u64, usize, usize, usize, u64);
@@ -249,15 +252,15 @@ fn drawn_commands(rt: HostRuntime) {
     }
 }
 
+// Orders by which the three routes are added.
 fn three_routes(rt: &impl Abort, alloc: Global) -> Vec<Order<24, 8>> {
-    let text = "add 10.0.0.0/8 1\nadd 10.1.0.0/16 2\nadd 10.1.1.128/25 3\n";
-    read_updates_v1(alloc, text.as_bytes()).expect(rt, "routes")
+    let mut orders = Vec::new(alloc);
+    for plain in &THREE {
+        let Rule { prefix, hop } = rule_of::<24, 8>(*plain).expect(rt, "a rule");
+        orders.push(Order::Add(prefix, hop)).expect(rt, "memory");
+    }
+    orders
 }
-
-// 10.1.1.128, 11.0.0.0, 10.1.1.127 and 10.2.0.0, and their next hops by the three routes.
-const FOUR: [u32; 4] = [0x0a01_0180, 0x0b00_0000, 0x0a01_017f, 0x0a02_0000];
-
-static NUMBERS: [Option<u32>; 4] = [Some(3), None, Some(2), Some(1)];
 
 fn assert_reads(rt: &impl Abort, fib: &Fib<24, 8>) {
     let route = prefix(0x0a01_0000, 16);
@@ -265,13 +268,13 @@ fn assert_reads(rt: &impl Abort, fib: &Fib<24, 8>) {
     assert_at(rt, "its rule", fib.get(&route), Some(hop(2)));
     assert_at(rt, "covered", fib.prefetch(&route), true);
     assert_at(rt, "uncovered", fib.prefetch(&other), false);
-    assert_at(rt, "lookup4", fib.lookup4(FOUR, 99), [3, 99, 2, 1]);
+    assert_at(rt, "lookup4", fib.lookup4(FOUR, DEFAULT_HOP), FOUR_HOPS);
     assert_at(rt, "config", fib.config(), Config::default());
 }
 
 fn assert_all_found(rt: &impl Abort, alloc: Global, fib: &Fib<24, 8>) {
     let hops = fib.lookup_all(alloc, &FOUR).expect(rt, "memory");
-    assert_at(rt, "place", other_hop(&hops, &NUMBERS), None);
+    assert_at(rt, "place", other_hop(&hops, &FOUR_NUMBERS), None);
 }
 
 // The three routes are added, and then answer.
@@ -297,7 +300,7 @@ fn assert_replay(rt: &impl Abort, replay: &Replay) {
         figures_of_replay(replay),
         (3, 3, 1, 0, 255, 1),
     );
-    assert_at(rt, "place", other_hop(&replay.hops, &NUMBERS), None);
+    assert_at(rt, "place", other_hop(&replay.hops, &FOUR_NUMBERS), None);
 }
 
 #[test]

@@ -12,7 +12,9 @@ use lpm_update::{Did, Update};
 use std::alloc::{AllocError, Global};
 use std::marker::Model;
 use std::process::Abort;
-use test_support::Edit;
+use test_support::{
+    COLLAPSE, COVER, Change, DEFAULT_UNDER_A_GROUP, FILLED, RuleEdit, UNDER_A_GROUP,
+};
 
 // Makes all stores of a change, and notes what each step did.
 fn record(rt: &impl Abort, made: &mut Vec<Did>, update: Update, cells: &mut PlainCells<4, 4>)
@@ -229,15 +231,21 @@ fn assert_stores(rt: &impl Abort, made: &[Did], before: usize, stores: Stores) {
 // A place among the first words or among the second words, and the word there.
 type Word = (usize, u64);
 
-// A change, its stores, and words after it: of the blocks, and of the group.
+// The stores of a change, and words after it: of the blocks, and of the group.
 #[derive(Clone, Copy)]
 struct Stage {
-    change: Edit,
     made: &'static [Stores],
     firsts: &'static [Word],
     seconds: &'static [Word],
     // all words of the group: the one at place 2, and each other
     group: Option<(u64, u64)>,
+}
+
+// Changes of rules, and what is there after each. A stage past the changes is that of a flush.
+#[derive(Clone, Copy)]
+struct Case {
+    edits: &'static [RuleEdit],
+    stages: &'static [Stage],
 }
 
 const LINK: &[Stores] = &[Stores::Seconds(0, 16), Stores::Firsts(1, 2)];
@@ -255,143 +263,143 @@ const NINE: u64 = 0x0100_0009;
 
 const GROUP: u64 = 0x0300_0000;
 
-// A flush that stores nothing.
+// A change that stores nothing.
 const BARE: Stage = Stage {
-    change: Edit::Flush,
     made: &[],
     firsts: &[],
     seconds: &[],
     group: None,
 };
 
-// 0x10 of length 4 to hop 7.
-const COVER: Stage = Stage {
-    change: Edit::Add(0x10, 4, 7),
+// A block has a next hop.
+const COVERED: Stage = Stage {
     made: &[Stores::Firsts(1, 2)],
     ..BARE
 };
 
-// And 0x12 of length 8 to hop 5, which takes group 0.
-const FILLED: Stage = Stage {
-    change: Edit::Add(0x12, 8, 5),
+// And an address in it another one, for which it takes group 0.
+const LINKED: Stage = Stage {
     made: LINK,
     firsts: &[(1, GROUP)],
     group: Some((FIVE, SEVEN)),
     ..BARE
 };
 
-const COVER_ANSWER: &[Stage] = &[
-    COVER,
-    FILLED,
-    Stage {
-        change: Edit::Delete(0x12, 8),
-        made: &[Stores::Seconds(2, 3), Stores::Unlinked(1, 0)],
-        firsts: &[(1, SEVEN)],
-        seconds: &[(2, SEVEN)],
-        ..BARE
-    },
-];
+// An address alone has a next hop.
+const ALONE: Stage = Stage { made: LINK, ..BARE };
 
-const UNDER_A_GROUP: &[Stage] = &[
-    COVER,
-    FILLED,
-    Stage {
-        change: Edit::Add(0x10, 4, 3),
-        made: &[Stores::Seconds(0, 2), Stores::Seconds(3, 16)],
-        firsts: &[(1, GROUP)],
-        group: Some((FIVE, THREE)),
-        ..BARE
-    },
-];
-
-// The group stays while a second rule longer than 4 bits is left in its block.
-const COLLAPSE: &[Stage] = &[
-    COVER,
-    FILLED,
-    Stage {
-        change: Edit::Add(0x10, 6, 6),
-        made: &[Stores::Seconds(0, 2), Stores::Seconds(3, 4)],
-        ..BARE
-    },
-    Stage {
-        change: Edit::Delete(0x12, 8),
-        made: &[Stores::Seconds(2, 3)],
-        firsts: &[(1, GROUP)],
-        seconds: &[(1, SIX), (2, SIX), (4, SEVEN)],
-        ..BARE
-    },
-    Stage {
-        change: Edit::Delete(0x10, 6),
-        made: &[Stores::Seconds(0, 4), Stores::Unlinked(1, 0)],
-        firsts: &[(1, SEVEN)],
-        ..BARE
-    },
-];
-
-// The rule of a table without others, over a group.
-const ALONE: Stage = Stage {
-    change: Edit::Add(0x12, 8, 5),
-    made: LINK,
-    ..BARE
+const COVER_ANSWER: Case = Case {
+    edits: &[COVER, FILLED, (Change::Delete, (0x12, 8, 5))],
+    stages: &[
+        COVERED,
+        LINKED,
+        Stage {
+            made: &[Stores::Seconds(2, 3), Stores::Unlinked(1, 0)],
+            firsts: &[(1, SEVEN)],
+            seconds: &[(2, SEVEN)],
+            ..BARE
+        },
+    ],
 };
 
-const ANSWER_FROM_UNLINKED_GROUP: &[Stage] = &[
-    ALONE,
-    Stage {
-        change: Edit::Flush,
-        made: &[Stores::Unlinked(1, 0)],
-        firsts: &[(1, 0)],
-        seconds: &[(2, FIVE)],
-        ..BARE
-    },
-];
+const OTHER_COVER: Case = Case {
+    edits: UNDER_A_GROUP,
+    stages: &[
+        COVERED,
+        LINKED,
+        Stage {
+            made: &[Stores::Seconds(0, 2), Stores::Seconds(3, 16)],
+            firsts: &[(1, GROUP)],
+            group: Some((FIVE, THREE)),
+            ..BARE
+        },
+    ],
+};
 
-const ORDER_UNDER_A_GROUP: &[Stage] = &[
-    ALONE,
-    Stage {
-        change: Edit::Add(0x00, 0, 9),
-        made: &[
-            Stores::Firsts(0, 1),
-            Stores::Seconds(0, 2),
-            Stores::Seconds(3, 16),
-            Stores::Firsts(2, 16),
-        ],
-        firsts: &[(15, NINE)],
-        seconds: &[(2, FIVE), (3, NINE)],
-        ..BARE
-    },
-    Stage {
-        change: Edit::Flush,
-        made: &[
-            Stores::Firsts(0, 1),
-            Stores::Unlinked(1, 0),
-            Stores::Firsts(2, 16),
-        ],
-        ..BARE
-    },
-    BARE,
-];
+const COLLAPSED: Case = Case {
+    edits: COLLAPSE,
+    stages: &[
+        COVERED,
+        LINKED,
+        Stage {
+            made: &[Stores::Seconds(0, 2), Stores::Seconds(3, 4)],
+            ..BARE
+        },
+        Stage {
+            made: &[Stores::Seconds(2, 3)],
+            firsts: &[(1, GROUP)],
+            seconds: &[(1, SIX), (2, SIX), (4, SEVEN)],
+            ..BARE
+        },
+        Stage {
+            made: &[Stores::Seconds(0, 4), Stores::Unlinked(1, 0)],
+            firsts: &[(1, SEVEN)],
+            ..BARE
+        },
+    ],
+};
 
-static CASES: [&[Stage]; 5] = [
+const ANSWER_FROM_UNLINKED_GROUP: Case = Case {
+    edits: &[FILLED],
+    stages: &[
+        ALONE,
+        Stage {
+            made: &[Stores::Unlinked(1, 0)],
+            firsts: &[(1, 0)],
+            seconds: &[(2, FIVE)],
+            ..BARE
+        },
+    ],
+};
+
+const ORDER_UNDER_A_GROUP: Case = Case {
+    edits: DEFAULT_UNDER_A_GROUP,
+    stages: &[
+        ALONE,
+        Stage {
+            made: &[
+                Stores::Firsts(0, 1),
+                Stores::Seconds(0, 2),
+                Stores::Seconds(3, 16),
+                Stores::Firsts(2, 16),
+            ],
+            firsts: &[(15, NINE)],
+            seconds: &[(2, FIVE), (3, NINE)],
+            ..BARE
+        },
+        Stage {
+            made: &[
+                Stores::Firsts(0, 1),
+                Stores::Unlinked(1, 0),
+                Stores::Firsts(2, 16),
+            ],
+            ..BARE
+        },
+        BARE,
+    ],
+};
+
+static CASES: [Case; 5] = [
     COVER_ANSWER,
-    UNDER_A_GROUP,
-    COLLAPSE,
+    OTHER_COVER,
+    COLLAPSED,
     ANSWER_FROM_UNLINKED_GROUP,
     ORDER_UNDER_A_GROUP,
 ];
 
-fn make_change(rt: &impl Abort, table: &mut Table, change: Edit) {
-    match change {
-        Edit::Add(bits, len, hop) => table.add(rt, bits, len, hop),
-        Edit::Delete(bits, len) => table.delete(rt, bits, len),
-        Edit::Flush => table.flush(rt),
-        Edit::Reclaim(_) | Edit::Synchronize => panic!(rt; "no update"),
+// Makes the change, or a flush.
+fn make_change(rt: &impl Abort, table: &mut Table, edit: Option<RuleEdit>) {
+    match edit {
+        Some((Change::Add(_), (bits, len, hop))) => table.add(rt, bits, len, hop),
+        Some((Change::Delete, (bits, len, _))) => table.delete(rt, bits, len),
+        None => table.flush(rt),
     }
 }
 
-fn play(rt: &impl Abort, table: &mut Table, stages: &[Stage]) {
-    for stage in stages {
-        make_change(rt, table, stage.change);
+fn play(rt: &impl Abort, table: &mut Table, case: &Case) {
+    assert!(rt; case.edits.len() <= case.stages.len());
+    for (place, stage) in case.stages.iter().enumerate() {
+        make_change(rt, table, case.edits.get(place).copied());
         table.assert_made(rt, stage.made);
         table.assert_words(rt, stage.firsts, stage.seconds);
         if let Some(words) = stage.group {
@@ -400,14 +408,14 @@ fn play(rt: &impl Abort, table: &mut Table, stages: &[Stage]) {
     }
 }
 
-fn assert_case(rt: &impl Abort, alloc: Global, stages: &[Stage]) {
+fn assert_case(rt: &impl Abort, alloc: Global, case: &Case) {
     let mut table = Table::open(alloc).expect(rt, "memory");
-    play(rt, &mut table, stages);
+    play(rt, &mut table, case);
 }
 
 #[test]
 fn stores_of_changes(rt: HostRuntime) {
-    for stages in CASES {
-        assert_case(&rt, rt.alloc(), stages);
+    for case in &CASES {
+        assert_case(&rt, rt.alloc(), case);
     }
 }

@@ -6,28 +6,25 @@ use lpm_bits::Hop;
 use lpm_rules::{Put, Rule, Rules};
 use std::alloc::Global;
 use std::process::Abort;
-use test_support::{MANY, Plain, THREE, block, hop_number, other_hop, rule_of};
+use test_support::{FOUR, FOUR_NUMBERS, MANY, Plain, THREE, block, hop_number, other_hop, rule_of};
 
-fn put(rt: &impl Abort, rules: &mut Rules<24, 8>, plain: Plain) {
+fn put_rule(rt: &impl Abort, rules: &mut Rules<24, 8>, plain: Plain) {
     let Rule { prefix, hop } = rule_of::<24, 8>(plain).expect(rt, "a rule");
     assert_at(rt, plain, rules.put(&prefix, hop), Ok(Put::Added));
 }
 
 fn put_three(rt: &impl Abort, rules: &mut Rules<24, 8>) {
     for plain in &THREE {
-        put(rt, rules, *plain);
+        put_rule(rt, rules, *plain);
     }
 }
 
-// 10.1.1.127, 10.1.1.128, 10.2.0.0 and 11.0.0.0 go to 2, 3, 1 and nowhere.
 #[test]
 fn expects_the_longest(rt: HostRuntime) {
-    let addrs = [0x0a01_017f, 0x0a01_0180, 0x0a02_0000, 0x0b00_0000];
     let mut rules = Rules::new(rt.alloc(), 3);
     put_three(&rt, &mut rules);
-    let hops = expect(&rt, rt.alloc(), &rules, &addrs).expect(&rt, "memory");
-    let numbers = [Some(2), Some(3), Some(1), None];
-    assert_at(&rt, "place", other_hop(&hops, &numbers), None);
+    let hops = expect(&rt, rt.alloc(), &rules, &FOUR).expect(&rt, "memory");
+    assert_at(&rt, "place", other_hop(&hops, &FOUR_NUMBERS), None);
     let none = expect(&rt, rt.alloc(), &rules, &[]).expect(&rt, "memory");
     assert_at(&rt, "no addresses", none.len(), 0);
 }
@@ -35,7 +32,7 @@ fn expects_the_longest(rt: HostRuntime) {
 // Puts in a rule for each block, with its number as the next hop.
 fn put_many(rt: &impl Abort, rules: &mut Rules<24, 8>) {
     for number in 0..MANY {
-        put(rt, rules, (block(number), 24, number));
+        put_rule(rt, rules, (block(number), 24, number));
     }
 }
 

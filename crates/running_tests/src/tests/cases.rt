@@ -17,7 +17,7 @@ use std::alloc::Global;
 use std::process::Abort;
 use std::sync::Wait;
 use std::test::Fail;
-use test_support::{Change, Plain, THREE, hop_number, rule_of};
+use test_support::{Change, DEFAULT_HOP, FOUR, FOUR_HOPS, Plain, THREE, hop_number, rule_of};
 
 // A pass that has met the writer answers by the rule that was added before. Each case is played by a
 // function that is lent its table: what a function owns makes its proof longer at each early end.
@@ -305,13 +305,12 @@ fn look_up_four(rt: &impl Abort, table: &Ipv4Table, writer: &mut Ipv4Writer, pas
 {
     add_three(rt, table, writer);
     pass.online(table);
-    let addrs = [0x0a01_0180, 0x0b00_0000, 0x0a01_017f, 0x0a02_0000];
-    let found = pass.lookup4(table, addrs, 99);
+    let found = pass.lookup4(table, FOUR, DEFAULT_HOP);
     let hops = found.hops;
-    assert_at(rt, "hops", hops, [3, 99, 2, 1]);
+    assert_at(rt, "hops", hops, FOUR_HOPS);
     assert_at(rt, "versions", (found.lo, found.hi), (3, 3));
     let flushed = writer.flush(table);
-    let answer = pass.lookup(table, 0x0a01_0180);
+    let answer = pass.lookup(table, FOUR[0]);
     assert_at(rt, "flush", (flushed, answer.hop), (Ok(3), None));
 }
 

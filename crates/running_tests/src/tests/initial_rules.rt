@@ -7,16 +7,14 @@ ghost use Rattle.lpm_rules.specs.RuleMap.{AreInOrder};
 use super::asserts::assert_at;
 use super::changes::{Ipv4Table, Ipv4Writer, SmallTable, SmallWriter, change, figures};
 use fib::Fib;
-use lpm_limits::Config;
 use lpm_rules::Rule;
 use lpm_sweep::{MOST_SORTED, in_order};
-use lpm_writer::OpenError;
 use shared_fib::{Pass, open_sorted};
 use std::alloc::Global;
 use std::process::Abort;
 use test_support::{
-    AMPLE, DEEP, HOPS, LIMITS, Plain, ROUTES, Row, STEPS, are_in_order, bad_limits, drawn_rules,
-    hop_number, rooms, rule_of, rules_of,
+    AMPLE, HOPS, LIMITS, Opening, ROUTES, Row, STEPS, are_in_order, drawn_rules, hop_number,
+    openings, rule_of, rules_of,
 };
 
 // Each address has the next hop that stands beside it, by this version.
@@ -86,14 +84,9 @@ fn sorted(rt: &impl Abort, alloc: Global, rules: &[Rule<4, 4>]) -> Vec<Rule<4, 4
     in_order(alloc, rules).expect(rt, "memory")
 }
 
-// What comes of opening a table with these rules within these limits.
-fn assert_opens(
-    rt: &impl Abort,
-    alloc: Global,
-    plain: &[Plain],
-    config: Config,
-    opens: Result<bool, OpenError>,
-) {
+// This comes of opening a table with the rules within the limits.
+fn assert_opens(rt: &impl Abort, alloc: Global, opening: &Opening) {
+    let (plain, config, opens) = *opening;
     let rules = rules_of::<4, 4>(alloc, plain).expect(rt, "rules");
     let found = match open_sorted(alloc, config, sorted(rt, alloc, &rules)) {
         Ok(table) => Ok(table.is_some()),
@@ -102,18 +95,11 @@ fn assert_opens(
     assert_at(rt, config, found, opens);
 }
 
-// A table has just as many rules or groups as it may have, and not one more.
 #[test]
-fn limits_that_suffice(rt: HostRuntime) {
-    for (plain, config, opens) in rooms() {
-        assert_opens(&rt, rt.alloc(), plain, config, Ok(opens));
-    }
-}
-
-#[test]
-fn limits_out_of_range(rt: HostRuntime) {
-    for config in bad_limits() {
-        assert_opens(&rt, rt.alloc(), &DEEP, config, Err(OpenError::BadConfig));
+fn limits_and_rules(rt: HostRuntime) {
+    let openings = openings(rt.alloc()).expect(&rt, "memory");
+    for opening in &openings {
+        assert_opens(&rt, rt.alloc(), opening);
     }
 }
 

@@ -6,7 +6,7 @@ use lpm_trace::{Deed, Kind, Step};
 use std::alloc::{AllocError, Global};
 use std::process::Abort;
 use world_reference::{
-    InitialState, PlainRule, Seen, Versions, deeds_are_done, deeds_are_sound, is_legal,
+    FinishedLookup, InitialState, PlainRule, Versions, deeds_are_done, deeds_are_sound, is_legal,
     loads_are_stores, lookups, never_falls, reuse_is_lawful, writes_in_order,
 };
 
@@ -465,7 +465,12 @@ fn lookups_of_the_trace(rt: HostRuntime) {
     let found = lookups(rt.alloc(), &SMALL, ONE_WORKER.steps, 0, DEEDS).expect(&rt, "memory");
     assert_at(&rt, "lookups", found.len(), LOOKED.len());
     for (place, looked) in LOOKED.iter().enumerate() {
-        assert_at(&rt, place, found.get(place).copied(), Some(seen(looked)));
+        assert_at(
+            &rt,
+            place,
+            found.get(place).copied(),
+            Some(finished(looked)),
+        );
     }
     let versions = versions_of(rt.alloc(), &ONE_WORKER).expect(&rt, "memory");
     let are_rising = never_falls(&SMALL, &versions, ONE_WORKER.steps, &found);

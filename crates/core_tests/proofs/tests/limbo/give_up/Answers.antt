@@ -1,5 +1,5 @@
 use Rattle.std.proofs.Common.{arith, rules, ◌≡◌, ◌<◌, ◌++◌, [], ◌∷◌, length, get_or, List, ℕ}
-use Rattle.defer_queue.proofs.Retirement.{AreRetired-push}
+use Rattle.core_tests.proofs.Retirement.{AreRetired-push}
 use Rattle.core_tests.proofs.tests.limbo.give_up.Goals as goal
 
 pub returns-clause-retired : goal.returns-clause-retired

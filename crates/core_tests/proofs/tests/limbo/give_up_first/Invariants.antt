@@ -1,5 +1,5 @@
 use Rattle.std.proofs.Common.{◌≡◌}
-use Rattle.defer_queue.specs.RetiredGroups.{AreRetired}
+use Rattle.core_tests.specs.RetiredGroups.{AreRetired}
 use Rattle.core_tests.proofs.tests.limbo.give_up_first.Given as goal
 
 abbrev pub invariant-loop-group : goal.invariant-loop-group
