@@ -2,6 +2,8 @@
  * it instead of rte_lpm.h.
  *
  * What differs from DPDK:
+ * - There is no rte_lpm_find_existing, as names are not kept, and no rte_lpm_rcu_qsbr_add: saxiko_writer_open makes a
+ *   table with readers.
  * - A prefix of depth 0 is a rule, the default route.
  * - Next hops have 24 bits, and a greater one is refused.
  * - `number_tbl8s` is 1 to 65536, and `max_rules` at most 16777216. Names and sockets are not kept.

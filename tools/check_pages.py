@@ -572,7 +572,7 @@ PLANTS = [
     Plant("docs/TRUSTED.md", "`audit/specs/Wrong`", "`audit/specs/Right`", "no such file: audit/specs/Right"),
     Plant("docs/TRUSTED.md", "`specs/Plain`", "`specs/MemorySteps`", "though it has a meaning: lpm_writer/specs/Plain"),
     Plant("crates/lpm_sweep/README.md", "`AreNumbered`", "`AreCounted`", "AreCounted"),
-    Plant("crates/fib/README.md", "`groups_fit`", "`groups_match`", "groups_match"),
+    Plant("crates/fib/README.md", "`suffice`", "`are_enough`", "speaks of: are_enough"),
     Plant("crates/bulk/README.md", "`bulk_plain` | `workers`", "`bulk_plain` | `desks`",
           "no clause of these calls: desks"),
     Plant("crates/fib/README.md", "(`specs/Replay.antt`)", "(`specs/Again.antt`)", "no such file: specs/Again.antt"),
