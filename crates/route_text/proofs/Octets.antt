@@ -2,12 +2,13 @@
 use Rattle.std.proofs.Common.{◌≡◌, ℕ, zero, suc, ◌+◌, ◌^◌, ◌<◌, ◌≤◌, List, [], ◌∷◌, ◌++◌, length, get_or, take, drop, refl, sym, ap, subst, ◌∙◌, arith, inl, inr, ◌*◌, append_assoc, ◌-◌, add-one}
 use Rattle.std.specs.Fmt.{decimal}
 use Rattle.std.specs.Int.{IsInRange, IsOutOfRange}
+use Rattle.std.specs.Net.Text.{dotted_text}
 use Rattle.std.specs.Str.Parse.{AllDigits, digits_value}
 use Rattle.std.proofs.lemmas.Bool.{cases_lt}
 use Rattle.std.proofs.lemmas.Fmt.{decimal_is_IsNumeral, decimal_nonempty, first_decimal, decimal_digit, decimal_injective, decimal-digits_value}
 use Rattle.std.proofs.lemmas.List.{take-append-le, get_or-take, get_or-append-add, get_or_append_left, length-append, length-take-le, take-append-drop, append-nil, take_at, drop_at, drop-drop}
 use Rattle.std.proofs.lemmas.Str.Parse.{digit_at, digits_value-take-le, numerals_by_value, tells_digits}
-use Rattle.route_text.specs.Fields.{IsNumber, IsAddress, dotted_quad}
+use Rattle.route_text.specs.Fields.{IsNumber, IsAddress}
 use Rattle.route_text.specs.Starts.{StartsNumber, StartsNoDigit, StartsNextOctet, StartsNoNextOctet, StartsAddress, StartsNumberBefore, StartsAddressBefore}
 use Rattle.route_text.specs.declared.lines.End.{End}
 use Rattle.std.proofs.lemmas.Str.{digit_value_digit}
@@ -136,7 +137,7 @@ octets_of text rest addr is = record {
 
 pub address_from : (text rest : List ℕ) (a b c d : ℕ) → Octets text rest a b c d → StartsAddress text (((a * 256 + b) * 256 + c) * 256 + d) rest
 address_from text rest a b c d is = record {
-  front = dotted_quad a b c d;
+  front = dotted_text a b c d;
   address = record { a = a; b = b; c = c; d = d; octets = is.fits; spelled = refl; value = refl };
   split = is.split ∙ sym (regroup (decimal a) (decimal b) (decimal c) (decimal d) rest);
   ends = is.ends;
@@ -225,7 +226,7 @@ octets_before end text r s t rest a b c d p q u v =
     let third : q.after ≡ after_dot c (after_dot d v.after) = q.ends ∙ ap (λ x. 46 ∷ x) (u.split ∙ ap (λ x. decimal c ++ x) fourth) in
     let second : p.after ≡ after_dot b (after_dot c (after_dot d v.after)) = p.ends ∙ ap (λ x. 46 ∷ x) (q.split ∙ ap (λ x. decimal b ++ x) third) in
     record {
-      front = dotted_quad a b c d;
+      front = dotted_text a b c d;
       after = v.after;
       address = record {
         a = a;

@@ -1,14 +1,16 @@
 -- What is written is read back: each update is a line of its word and fields.
-use Rattle.std.proofs.Common.{◌≡◌, ℕ, suc, ◌+◌, ◌<◌, ◌≤◌, List, [], ◌∷◌, ◌++◌, length, get_or, drop, sym, ap, ◌∙◌, append_assoc, add-one, ◌^◌, false, ◌==◌, refl, subst, arith, ◌/◌, ◌%◌, Bool, true, ◌&&◌, nat_lt, codes, All}
+use Rattle.std.proofs.Common.{◌≡◌, ℕ, suc, ◌+◌, ◌<◌, ◌≤◌, List, [], ◌∷◌, ◌++◌, length, get_or, drop, sym, ap, ◌∙◌, append_assoc, add-one, ◌^◌, false, ◌==◌, refl, subst, arith, Bool, true, ◌&&◌, nat_lt, codes, All}
 use Rattle.std.proofs.Math.Seq.{drop-cons}
 use Rattle.std.proofs.lemmas.List.{append-nil, drop_all, length-append, get_or_append_left}
 use Rattle.std.specs.Fmt.{decimal}
+use Rattle.std.specs.Int.{byte_at}
 use Rattle.std.specs.Str.Parse.{AllDigits}
 use Rattle.std.proofs.lemmas.Bool.Decides.{nat_tests}
 use Rattle.std.proofs.lemmas.Fmt.{decimal_is_IsNumeral, decimal_nonempty}
 use Rattle.std.proofs.lemmas.Str.Parse.{digit_from_value, digit_at}
 use Rattle.route_text.specs.Files.{is_blank, onto_first, lines, fields, SpellsAddress, HasAddressFault, SpellsRoute, HasRouteFault, StandsFor, AreItems}
 use Rattle.lpm_bits.specs.Network.{Network, network_bits, IsNetwork}
+use Rattle.lpm_bits.specs.Texts.{prefix_text}
 use Rattle.route_text.specs.Fields.{IsNumber, IsAddress, IsPrefix}
 use Rattle.route_text.specs.Starts.{StartsNumberBefore, StartsAddressBefore, Says, SaysFirst, IsSound}
 use Rattle.route_text.proofs.Cuts.{HasNoSlash, before_cut, after_cut}
@@ -19,7 +21,7 @@ use borrow.Author.Tests.{ltb-true}
 use Rattle.fib_model.specs.declared.orders.Order.{Order}
 use Rattle.fib_model.specs.declared.orders.Outcome.{Outcome}
 use Rattle.route_text.specs.Updates.{IsCountInRange, SpellsUpdate, AreUpdates, header, after_first, StartsHeader}
-use Rattle.route_text.specs.Texts.{address_text, prefix_text, addition_text, update_text, update_line, lines_of_updates, update_lines, outcome_line, outcome_lines}
+use Rattle.route_text.specs.Texts.{address_text, addition_text, update_text, update_line, lines_of_updates, update_lines, outcome_line, outcome_lines}
 use Rattle.route_text.specs.declared.lines.End.TheVariants as ends
 use Rattle.route_text.specs.declared.grammar.Line.TheVariants as kinds
 use Rattle.fib_model.specs.declared.orders.Order.TheVariants as orders
@@ -228,10 +230,10 @@ is_word word past some = record { plain = past_space word past; some = some }
 -- an address in four octets
 pub address_of : (addr : ℕ) → addr < 2 ^ 32 → IsAddress (address_text addr) addr
 address_of addr small = record {
-  a = addr / 2 ^ 24;
-  b = addr / 2 ^ 16 % 256;
-  c = addr / 2 ^ 8 % 256;
-  d = addr % 256;
+  a = byte_at 3 addr;
+  b = byte_at 2 addr;
+  c = byte_at 1 addr;
+  d = byte_at 0 addr;
   octets = (omega arith, omega arith, omega arith, omega arith);
   spelled = refl;
   value = omega arith;
@@ -271,19 +273,16 @@ module _ (prefix : Network) (is : IsNetwork 32 prefix) where
   spelled_address : IsAddress (address_text prefix.bits) prefix.bits
   spelled_address = address_of prefix.bits is.1
 
-  regroup_prefix : prefix_text prefix ≡ address_text prefix.bits ++ 47 ∷ decimal prefix.len
-  regroup_prefix = append_assoc (address_text prefix.bits) (47 ∷ []) (decimal prefix.len)
-
   plain_prefix : IsPlain (prefix_text prefix)
-  plain_prefix = subst IsPlain (sym regroup_prefix) (plain_append (address_text prefix.bits) (47 ∷ decimal prefix.len) (plain_address (address_text prefix.bits) prefix.bits spelled_address) (omega arith, plain_decimal prefix.len (omega (arith, is.0))))
+  plain_prefix = plain_append (address_text prefix.bits) (47 ∷ decimal prefix.len) (plain_address (address_text prefix.bits) prefix.bits spelled_address) (omega arith, plain_decimal prefix.len (omega (arith, is.0)))
 
   some_prefix : 0 < length (prefix_text prefix)
-  some_prefix = omega (arith, ap length regroup_prefix, length-append (address_text prefix.bits) (47 ∷ decimal prefix.len))
+  some_prefix = omega (arith, length-append (address_text prefix.bits) (47 ∷ decimal prefix.len))
 
   spelled_prefix : IsPrefix (prefix_text prefix) prefix
   spelled_prefix =
       let same : prefix ≡ record { bits = network_bits 32 prefix.len prefix.bits; len = prefix.len } = ap (λ b. made b prefix.len) (sym is.2) in
-      subst (λ t. IsPrefix t prefix) (sym regroup_prefix) (prefix_of (address_text prefix.bits) (decimal prefix.len) prefix.bits prefix.len prefix spelled_address (record { small = is.0; spelled = refl }) same)
+      prefix_of (address_text prefix.bits) (decimal prefix.len) prefix.bits prefix.len prefix spelled_address (record { small = is.0; spelled = refl }) same
     where
       made : ℕ → ℕ → Network
       made x y = record { bits = x; len = y }

@@ -6,7 +6,8 @@ use Rattle.std.specs.Prelude.{Option, Some, None, codes, decimal}
 use Rattle.lpm_rules.specs.declared.Rule.{Rule}
 use Rattle.route_text.specs.declared.explanations.Reading.{Reading}
 use Rattle.route_text.specs.declared.explanations.SecondWord.{SecondWord}
-use Rattle.route_text.specs.Texts.{address_text, prefix_text}
+use Rattle.lpm_bits.specs.Texts.{prefix_text}
+use Rattle.route_text.specs.Texts.{address_text}
 
 -- a digit of a number in base 16
 abbrev pub hex_digit : ℕ → ℕ

@@ -1,8 +1,11 @@
 -- Meaning: the texts of answers, updates and outcomes (this project's file format: each line is
 -- ended by LF).
-use Rattle.std.specs.Prelude.{ℕ, ◌/◌, ◌%◌, ◌^◌, List, [], ◌∷◌, ◌++◌, Option, Some, None}
+use Rattle.std.specs.Prelude.{ℕ, List, [], ◌∷◌, ◌++◌, Option, Some, None}
 use Rattle.std.specs.Prelude.{codes, decimal}
+use Rattle.std.specs.Int.{w32, to_be_bytes}
+use Rattle.std.specs.Net.Text.{ipv4_text}
 use Rattle.lpm_bits.specs.Network.{Network}
+use Rattle.lpm_bits.specs.Texts.{prefix_text}
 use Rattle.lpm_limits.specs.declared.busy.Busy.{Busy}
 use Rattle.lpm_limits.specs.declared.refusal.Refusal.{Refusal}
 use Rattle.lpm_limits.specs.declared.refusal.Refusal.TheVariants.{NoGroups}
@@ -13,12 +16,11 @@ use Rattle.fib_model.specs.declared.orders.Order.{Order}
 use Rattle.fib_model.specs.declared.orders.Order.TheVariants as orders
 use Rattle.fib_model.specs.declared.orders.Outcome.{Outcome}
 use Rattle.fib_model.specs.declared.orders.Outcome.TheVariants as outcomes
-use Rattle.route_text.specs.Fields.{dotted_quad}
 use Rattle.route_text.specs.Updates.{header}
 
 -- the four octets as decimals
 abbrev pub address_text : ℕ → List ℕ
-address_text a = dotted_quad (a / 2 ^ 24) (a / 2 ^ 16 % 256) (a / 2 ^ 8 % 256) (a % 256)
+address_text a = ipv4_text (to_be_bytes w32 a)
 
 -- the hop as a decimal, or `-` for a miss
 abbrev pub hop_text : Option ℕ → List ℕ
@@ -33,10 +35,6 @@ unfoldable pub answer_lines : List ℕ → List (Option ℕ) → List ℕ
 answer_lines [] hops = []
 answer_lines (a ∷ addrs) [] = []
 answer_lines (a ∷ addrs) (hop ∷ hops) = answer_line a hop ++ answer_lines addrs hops
-
--- an address, a slash and a length
-abbrev pub prefix_text : Network → List ℕ
-prefix_text prefix = address_text prefix.bits ++ codes "/" ++ decimal prefix.len
 
 abbrev pub addition_text : Network → ℕ → List ℕ
 addition_text prefix hop = codes "add " ++ prefix_text prefix ++ codes " " ++ decimal hop

@@ -1,7 +1,8 @@
 //! Pieces of lines that are written.
 ghost use Rattle.std.specs.Prelude.{◌≡◌, ◌++◌, OnOk, decimal};
 ghost use Rattle.lpm_bits.specs.Network.{IsNetwork};
-ghost use Rattle.route_text.specs.Texts.{address_text, prefix_text};
+ghost use Rattle.lpm_bits.specs.Texts.{prefix_text};
+ghost use Rattle.route_text.specs.Texts.{address_text};
 
 use crate::answers::{ADDRESS_ROOM, put_address};
 use itoa::Buffer;
