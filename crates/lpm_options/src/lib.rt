@@ -1,7 +1,7 @@
 //! The command line of `lpmtool`, read by `clap`.
 #![tactic(auto)]
 
-ghost use Rattle.std.specs.Prelude.{IfOk, IfErr, Option, List, [], map};
+ghost use Rattle.std.specs.Prelude.{◌≡◌, IfOk, IfErr, Option, List, [], map};
 ghost use Rattle.clap.specs.Words.{subcommand_of, subcommand_rows_of, fault_of};
 ghost use Rattle.clap.specs.Words.{Kinds, HasKind, Text, Row};
 ghost use Rattle.lpm_options.specs.Commands.{the_app};
@@ -128,6 +128,7 @@ impl fmt::Display for Refused<'_> {
 /// Where the words ask for help or for the version, that is a `Usage` whose error doesn't go to
 /// standard error.
 pub fn options<'a, S: AsStr>(alloc: Global, words: &'a [S]) -> Result<CommandLine<'a>, Refused<'a>>
+    ensures accepted { IfOk result (λ _. fault_of the_app (map S.text words.entry.now) ≡ []) }
     ensures asked { IfOk result (IsAskedBy (subcommand_of the_app (map S.text words.entry.now))) }
     ensures in_range { IfOk result IsInRange }
     ensures one_input { IfOk result (λ line. HasTwoStandardInputs line → ⊥) }

@@ -1,6 +1,6 @@
 -- Meaning: a whole run (this project's program: help, the version, or the output of the command that
 -- the words ask for).
-use Rattle.std.specs.Prelude.{ℕ, ◌≡◌, ⊤, List, Option, ◌⊎◌}
+use Rattle.std.specs.Prelude.{ℕ, ◌≡◌, ⊤, List, [], Option, ◌⊎◌}
 use Rattle.clap.specs.Words.{Text, IsAmong, subcommand_of, fault_of, kind_of}
 use Rattle.clap.specs.declared.error.kind.ErrorKind.{ErrorKind}
 use Rattle.clap.specs.declared.error.kind.ErrorKind.TheVariants.{DisplayHelp, DisplayVersion}
@@ -9,7 +9,7 @@ use Rattle.lpm_options.specs.declared.CommandLine.TheVariants as commands
 use Rattle.lpm_options.specs.declared.Refused.{Refused}
 use Rattle.lpm_options.specs.declared.Refused.TheVariants as refused
 use Rattle.lpm_options.specs.Commands.{the_app}
-use Rattle.lpm_options.specs.Requests.{IsAskedBy, IsRefusalBy}
+use Rattle.lpm_options.specs.Requests.{HasTwoStandardInputs, IsAskedBy, IsInRange, IsRefusalBy}
 use Rattle.lpm_files.specs.declared.failure.Failure.{Failure}
 use Rattle.lpm_files.specs.Output.{Writes, WritesBeginning}
 use Rattle.lpm_commands.specs.Lookup.{IsLookupText, EndsLookup}
@@ -57,9 +57,12 @@ IsShown kind = (kind ≡ DisplayHelp) ⊎ (kind ≡ DisplayVersion)
 abbrev pub AsksForHelp : List Text → Type 0
 AsksForHelp words = (kind : ErrorKind) × IsShown kind × IsAmong kind (fault_of the_app words)
 
--- the words ask for this command
-abbrev pub AsksFor : List Text → CommandLine → Type 0
-AsksFor words line = IsAskedBy (subcommand_of the_app words) line
+-- the words ask for this command, and nothing is wrong with them
+pub record AsksFor (words : List Text) (line : CommandLine) : Type 0 where
+  pub asked : IsAskedBy (subcommand_of the_app words) line
+  pub accepted : fault_of the_app words ≡ []
+  pub in_range : IsInRange line
+  pub one_input : ¬ HasTwoStandardInputs line
 
 -- the words ask for help, or for a command whose output was written
 abbrev pub IsDone : List Text → (List ℕ → Option (List ℕ)) → Option (List ℕ) → Option (List ℕ)
