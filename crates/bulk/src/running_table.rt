@@ -1,6 +1,6 @@
 //! Many addresses, answered by a running table that its writer lets rest meanwhile.
 
-ghost use Rattle.std.specs.Prelude.{◌≡◌, ◌+◌, ◌^◌, ℕ, ◌<◌, ◌↔◌, true, All, IfOk, OnOk, IsErrOf};
+ghost use Rattle.std.specs.Prelude.{◌≡◌, ◌+◌, ◌^◌, ℕ, ◌<◌, ◌↔◌, true, All, IfOk, OnErr, OnOk, IsErrOf};
 ghost use Rattle.std.specs.Prelude.{length, map, slice_index_or, vec_len};
 ghost use Rattle.lpm_rules.specs.Longest.{AreLongestHops};
 ghost use Rattle.shared_words.specs.Rule.{IsLater};
@@ -130,6 +130,8 @@ pub fn bulk<R: Threads + Sync, G: Gate, const FIRST: u32, const SECOND: u32>(
     ensures desks { All (IsDeskOf table.now) desks.new }
     ensures numbers { map worker_of desks.new ≡ map worker_of desks.old }
     ensures passes { EachDesk IsSameDesk desks.old desks.new }
+    ensures unanswered { OnErr result
+        (EachDesk (λ old new. new.pass ≡ old.pass) desks.old desks.new) }
 {
     if desks.is_empty() {
         return Err(BulkError::NoWorkers);
