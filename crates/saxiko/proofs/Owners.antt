@@ -1,9 +1,9 @@
 -- The passes at the bench of an owner.
 use Rattle.std.proofs.Common.{ℕ, ◌≡◌, zero, suc, ◌≤◌, refl, ap, sym, subst, ◌∙◌, List, [], ◌∷◌, slice_get, Option, Some, None, Result}
-use Rattle.std.specs.Prelude.{slice_set, ◌↔◌, IfOk, IsErrOf, OnErr}
+use Rattle.std.specs.Prelude.{slice_set, ◌↔◌, ◌⊎◌, IfOk, IfErr, IsErrOf, OnErr}
 use Rattle.lpm_limits.specs.declared.config.Config.{Config}
 use Rattle.lpm_limits.specs.declared.refusal.Refusal.{Refusal}
-use Rattle.lpm_limits.specs.declared.refusal.Refusal.TheVariants.{NoSuchWorker, Taken}
+use Rattle.lpm_limits.specs.declared.refusal.Refusal.TheVariants.{NoSuchWorker, Taken, Memory}
 use Rattle.lpm_rules.specs.RuleMap.{RuleMap}
 use Rattle.shared_fib.specs.Passes.{PassState, IsPassOf, IsFullBench, IsBenchOf, IsPutBack}
 use Rattle.shared_fib.specs.RunningTable.{Identity, WriterState, initial_writer}
@@ -23,13 +23,15 @@ module _ (w : WriterState) (old new : List (Option PassState)) (x : OwnerState) 
       → IfOk r (λ p. (slice_get old worker ≡ Some (Some p)) × (new ≡ slice_set old worker None))
       → IsErrOf r NoSuchWorker ↔ (id.initial.workers ≤ worker)
       → IsErrOf r Taken ↔ (slice_get old worker ≡ Some None)
+      → IfErr r (λ e. (e ≡ NoSuchWorker) ⊎ (e ≡ Taken) ⊎ (e ≡ Memory))
       → OnErr r (new ≡ old) → IsBenchOf id new → Registers x worker r (record { writer = w; bench = new })
-  registers id worker r same reader registered no_such_worker taken unchanged own =
+  registers id worker r same reader registered no_such_worker taken refusals unchanged own =
       subst (λ (y : OwnerState). Registers y worker r (record { writer = w; bench = new })) is (record {
         reader = subst (λ (i : Identity). IfOk r (IsPassOf i worker)) (sym same) reader;
         registered = registered;
         no_such_worker = subst (λ (i : Identity). IsErrOf r NoSuchWorker ↔ (i.initial.workers ≤ worker)) (sym same) no_such_worker;
         taken = taken;
+        refusals = refusals;
         unchanged = on_err_then r unchanged (ap (λ (b : List (Option PassState)). record { writer = w; bench = b }));
         own = subst (λ (i : Identity). IsBenchOf i new) (sym same) own;
         same = refl;

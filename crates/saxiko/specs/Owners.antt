@@ -1,10 +1,10 @@
 -- Meaning: the owner of a running table, as its callers see it, and what comes of a registration (this
 -- project's).
 use Rattle.std.specs.Prelude.{ℕ, ◌≡◌, ◌≤◌, ◌↔◌, List, Option, Some, None, slice_get, slice_set, refl}
-use Rattle.std.specs.Prelude.{Result, IfOk, IsErrOf, OnErr}
+use Rattle.std.specs.Prelude.{◌⊎◌, Result, IfOk, IfErr, IsErrOf, OnErr}
 use Rattle.std.specs.Coded.{Coded, code_by, coded×, coded_list, coded_option}
 use Rattle.lpm_limits.specs.declared.refusal.Refusal.{Refusal}
-use Rattle.lpm_limits.specs.declared.refusal.Refusal.TheVariants.{NoSuchWorker, Taken}
+use Rattle.lpm_limits.specs.declared.refusal.Refusal.TheVariants.{NoSuchWorker, Taken, Memory}
 use Rattle.shared_fib.specs.Passes.{PassState, IsPassOf, IsBenchOf, coded_pass}
 use Rattle.shared_fib.specs.RunningTable.{WriterState, coded_writer}
 
@@ -28,6 +28,7 @@ pub record Registers (x : OwnerState) (worker : ℕ) (r : Result PassState Refus
       × (z.bench ≡ slice_set x.bench worker None))
   pub no_such_worker : IsErrOf r NoSuchWorker ↔ (x.writer.identity.initial.workers ≤ worker)
   pub taken : IsErrOf r Taken ↔ (slice_get x.bench worker ≡ Some None)
+  pub refusals : IfErr r (λ e. (e ≡ NoSuchWorker) ⊎ (e ≡ Taken) ⊎ (e ≡ Memory))
   pub unchanged : OnErr r (z ≡ x)
   pub own : IsBenchOf z.writer.identity z.bench
   pub same : z.writer ≡ x.writer

@@ -1,6 +1,6 @@
 //! A reader of a running table.
 
-ghost use Rattle.std.specs.Prelude.{◌≡◌, ◌<◌, ◌≤◌, ◌↔◌, ℕ, [], ◌∷◌, true, false, IfOk, IsErrOf, OnErr, None, Some, Option, List, drop, length, map, min, slice_get, slice_set, take};
+ghost use Rattle.std.specs.Prelude.{◌≡◌, ◌<◌, ◌≤◌, ◌↔◌, ℕ, [], ◌∷◌, ◌⊎◌, true, false, IfErr, IfOk, IsErrOf, OnErr, None, Some, Option, List, drop, length, map, min, slice_get, slice_set, take};
 ghost use Rattle.std.specs.Arc.{arc_value};
 ghost use Rattle.lpm_trace.specs.declared.step.WorkerStep.TheVariants.{LoadOnline, StoreOnline, LoadQuiescent, StoreQuiescent, StoreOffline};
 ghost use Rattle.shared_fib.specs.Bursts.{LooksUpBurst};
@@ -199,6 +199,8 @@ pub(crate) fn reader_of_worker(
     ensures no_such_worker { IsErrOf result Refusal.NoSuchWorker
         ↔ ((arc_value table.now).initial.workers ≤ worker) }
     ensures taken { IsErrOf result Refusal.Taken ↔ (slice_get bench.old worker ≡ Some None) }
+    ensures refusals { IfErr result (λ e. (e ≡ Refusal.NoSuchWorker) ⊎ (e ≡ Refusal.Taken)
+        ⊎ (e ≡ Refusal.Memory)) }
     ensures unchanged { OnErr result (bench.new ≡ bench.old) }
     ensures own { IsBenchOf (arc_value table.now) bench.new }
 {
