@@ -94,10 +94,10 @@ int32_t saxiko_table_open(struct saxiko_table *table, const struct saxiko_config
 
 /* Opens a table with the rules of these routes, in any order, at once and as version 0. Of routes of one prefix the last
  * counts. It is faster than an add for each.
- * -EDOM: a route has a greater depth or next hop than there is, and `*bad` is then the place of the first such.
- * -EINVAL: a limit is out of its range. -ENOSPC: the limits don't suffice for the rules or their groups. -E2BIG: more than
- * 2^26 routes. -EBUSY: the handle is open. -ENOMEM. With a length of 0 `routes` may be null. On any thread, which is the
- * table's then. */
+ * -EBUSY: the handle is open. -E2BIG: more than 2^26 routes. -EDOM: a route has a greater depth or next hop than there is,
+ * and `*bad` is then the place of the first such. -EINVAL: a limit is out of its range. -ENOSPC: the limits don't suffice
+ * for the rules or their groups. Of several the first of these is returned. -ENOMEM. With a length of 0 `routes` may be
+ * null. On any thread, which is the table's then. */
 int32_t saxiko_table_load(struct saxiko_table *table, const struct saxiko_config *config,
                           const struct saxiko_route *routes, size_t routes_len, size_t *bad);
 

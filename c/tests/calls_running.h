@@ -365,7 +365,8 @@ static void running_limits_checked(void) {
     saxiko_reader_close(&reader);
 }
 
-/* A list of routes is loaded, and readers answer by it. What is refused opens nothing. */
+/* A list of routes is loaded, and readers answer by it. What is refused opens nothing, and a route that is none is told
+ * before limits that are none. */
 static void running_loads(void) {
     struct saxiko_route routes[4] = {{A(10, 1, 1, 200), 4, 32}, {0, 1, 0}, {A(10, 1, 1, 129), 3, 25}, {7, 2, 0}};
     struct saxiko_config config = running_limits, bad_limits = running_limits;
@@ -396,7 +397,7 @@ static void running_loads(void) {
     CHECK(saxiko_writer_load(&another, &config, routes, 4, NULL), -EINVAL);
     CHECK(bad, UNTOUCHED);
     routes[2].depth = 33;
-    CHECK(saxiko_writer_load(&another, &config, routes, 4, &bad), -EDOM);
+    CHECK(saxiko_writer_load(&another, &bad_limits, routes, 4, &bad), -EDOM);
     CHECK(bad, 2);
     CHECK(another.is_open, 0);
     CHECK(saxiko_writer_load(&another, &running_limits, NULL, 0, &bad), 0);

@@ -185,7 +185,8 @@ static void many(struct saxiko_table *table) {
     CHECK(hops[5], UNTOUCHED);
 }
 
-/* A list of routes is loaded; a second one for a prefix counts. What is refused opens nothing. */
+/* A list of routes is loaded; a second one for a prefix counts. What is refused opens nothing, and a route that is none
+ * is told before limits that are none. */
 static void loads(void) {
     struct saxiko_route routes[4] = {{A(10, 1, 1, 200), 4, 32}, {0, 1, 0}, {A(10, 1, 1, 129), 3, 25}, {7, 2, 0}};
     struct saxiko_config config = small, bad_limits = small;
@@ -214,7 +215,7 @@ static void loads(void) {
     CHECK(saxiko_table_load(&table, &small, routes, 4, &bad), -EDOM);
     CHECK(bad, 3);
     routes[2].depth = 33;
-    CHECK(saxiko_table_load(&table, &small, routes, 4, &bad), -EDOM);
+    CHECK(saxiko_table_load(&table, &bad_limits, routes, 4, &bad), -EDOM);
     CHECK(bad, 2);
     bad = UNTOUCHED;
     CHECK(saxiko_table_load(NULL, &small, routes, 2, &bad), -EINVAL);

@@ -1,6 +1,6 @@
 -- Meaning: tables that open with the routes of a list (DPDK Programmer's Guide, "LPM Library", "Addition": a rule
 -- for a prefix that has one takes its place).
-use Rattle.std.specs.Prelude.{ℕ, ℤ, ◌≡◌, ◌<◌, ◌^◌, ◌⊎◌, All, List, Option, IsSomeAnd, length, map, slice_get, take}
+use Rattle.std.specs.Prelude.{ℕ, ℤ, ◌≡◌, ◌<◌, ◌≤◌, ◌^◌, ◌⊎◌, All, List, Option, IsSomeAnd, length, map, slice_get, take}
 use Rattle.lpm_bits.specs.Network.{prefix_of}
 use Rattle.lpm_rules.specs.RuleMap.{RuleMap, rules_of}
 use Rattle.lpm_rules.specs.declared.Rule.{Rule}
@@ -30,24 +30,30 @@ pub record IsFirstBad (routes : List SaxikoRoute) (place : ℕ) : Type 0 where
   pub bad : IsSomeAnd (slice_get routes place) IsBadRoute
   pub before : All (λ route. ¬ IsBadRoute route) (take place routes)
 
--- the routes were not read: E2BIG, EDOM and the place of the first that gives no rule, or ENOMEM
+-- they can be read: they are no more than can be sorted, and each gives a rule
+pub record AreReadable (routes : List SaxikoRoute) : Type 0 where
+  pub few : length routes ≤ 2 ^ 26
+  pub good : All (λ route. ¬ IsBadRoute route) routes
+
+-- the routes were not read: E2BIG, and else EDOM and the place of the first that gives no rule, or ENOMEM
 abbrev pub IsUnread : List SaxikoRoute → ℕ → ℕ → ℤ → Type 0
 IsUnread routes before after status =
     ((status ≡ too_big) × (2 ^ 26 < length routes) × (after ≡ before))
-    ⊎ (((status ≡ out_of_domain) × IsFirstBad routes after)
-    ⊎ ((status ≡ no_memory) × (after ≡ before)))
+    ⊎ ((length routes ≤ 2 ^ 26) × (((status ≡ out_of_domain) × IsFirstBad routes after)
+    ⊎ ((status ≡ no_memory) × (after ≡ before))))
 
--- no table was opened: as IsUnread says, or else EINVAL, ENOSPC or ENOMEM
+-- no table was opened: as IsUnread says, or else EINVAL, and else ENOSPC
 abbrev pub IsUnloaded : Config → List SaxikoRoute → ℕ → ℕ → ℤ → Type 0
 IsUnloaded c routes before after status =
     IsUnread routes before after status
-    ⊎ ((after ≡ before)
+    ⊎ (AreReadable routes × (after ≡ before)
     × (((status ≡ invalid) × ¬ IsConfig c)
     ⊎ ((status ≡ no_space) × IsConfig c × AreTooSmall 24 8 c (rules_of_routes routes))))
 
 -- the table has the rules of the routes, as version 0
 pub record IsLoaded (c : Config) (routes : List SaxikoRoute) (before after : ℕ) (f : FibState) : Type 0 where
   pub table : f ≡ initial_fib_with c (rules_of_routes routes)
+  pub readable : AreReadable routes
   pub limits : IsConfig c
   pub suffice : AreSufficient 24 8 c (rules_of_routes routes)
   pub unchanged : after ≡ before
@@ -59,10 +65,11 @@ Loads c routes before after =
 
 -- A running table that opens with the routes of a list (this project's).
 
--- the limits suffice, and the table has the rules of the routes
+-- the routes can be read, the limits suffice, and the table has the rules of the routes
 abbrev pub IsLoadedRunning : Config → List SaxikoRoute → StagedOwner → Type 0
 IsLoadedRunning c routes o =
-    AreSufficient 24 8 c (rules_of_routes routes) × IsOpened c (rules_of_routes routes) o
+    AreReadable routes × AreSufficient 24 8 c (rules_of_routes routes)
+    × IsOpened c (rules_of_routes routes) o
 
 -- a closed handle has a table with the rules of the routes then; an open one stays as it is
 abbrev pub LoadsRunning : Config → List SaxikoRoute → ℕ → ℕ → Option StagedOwner → ℤ → Option StagedOwner → Type 0

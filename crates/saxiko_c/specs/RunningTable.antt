@@ -1,9 +1,9 @@
 -- Meaning: the calls of a running table, by the status that they answer (DPDK Programmer's Guide, "LPM Library" and
 -- "RCU Library").
-use Rattle.std.specs.Prelude.{Bool, List, Option, refl, ℕ, ℤ, ⊤, ◌≡◌, ◌≢◌, ◌+◌, ◌≤◌, ◌<◌, ◌⊎◌, true, false, pos, [], ◌∷◌, Some, None, Result, length, map, slice_get, slice_set, take}
+use Rattle.std.specs.Prelude.{Bool, List, Option, refl, ℕ, ℤ, ⊤, ◌≡◌, ◌≢◌, ◌-◌, ◌^◌, ◌≤◌, ◌<◌, ◌⊎◌, true, false, pos, [], ◌∷◌, Some, None, Result, length, map, slice_get, slice_set, take}
 use Rattle.std.specs.Coded.{Coded, code_by, coded×, coded_bool, coded_list, coded_option}
 use Rattle.shared_fib.specs.RunningTable.{WriterState, coded_writer, IsAtRest, by_steps, hop_or, initial_writer, initial_state, steps_of, token_of}
-use Rattle.shared_fib.specs.Passes.{PassState, coded_pass, IsBenchOf, IsFullBench, IsPassOf, LooksUp, Makes}
+use Rattle.shared_fib.specs.Passes.{PassState, coded_pass, IsBenchOf, IsFullBench, IsPassOf, IsPutBack, LooksUp, Makes}
 use Rattle.std.specs.FinMap.{empty}
 use Rattle.lpm_bits.specs.Network.{prefix_of}
 use Rattle.lpm_rules.specs.RuleMap.{RuleMap}
@@ -121,12 +121,13 @@ pub record IsRegistered (number : ℕ) (o : StagedOwner) (reader : PassState) (p
   pub same : p.writer ≡ o.writer
   pub stage : p.waits ≡ o.waits
 
--- no reader was handed out: EINVAL only where there is no such number, EBUSY only where it has a reader, or ENOMEM
+-- no reader was handed out: EINVAL where there is no such number, EBUSY where it has a reader, and else ENOMEM
 abbrev pub IsUnregistered : ℕ → StagedOwner → ℤ → StagedOwner → Type 0
 IsUnregistered number o status p = (p ≡ o)
     × (((status ≡ invalid) × (o.writer.identity.initial.workers ≤ number))
     ⊎ (((status ≡ busy) × (slice_get o.bench number ≡ Some None))
-    ⊎ (status ≡ no_memory)))
+    ⊎ ((status ≡ no_memory) × (number < o.writer.identity.initial.workers)
+    × ¬ (slice_get o.bench number ≡ Some None))))
 
 -- a closed handle has the reader then
 abbrev pub Registers : ℕ → Option StagedOwner → Option PassState → ℤ → Option StagedOwner → Option PassState → Type 0
@@ -140,10 +141,8 @@ Registers number (Some o) None status (Some p) (Some reader) =
 
 -- the reader is at the bench then, and those at the bench are offline
 abbrev pub GivesBack : PassState → StagedOwner → ℤ → StagedOwner → Type 0
-GivesBack reader o status p = (status ≡ success) × (left : PassState)
-    × (p.bench ≡ slice_set o.bench reader.worker (Some left))
-    × (reader.online ≡ true → (place : ℕ) × Makes ((StoreOffline, place) ∷ []) reader left)
-    × (reader.online ≡ false → left ≡ reader)
+GivesBack reader o status p = (status ≡ success)
+    × IsPutBack o.bench reader p.bench
     × IsBenchOf p.writer.identity p.bench
     × (p.writer ≡ o.writer)
     × (p.waits ≡ o.waits)
@@ -220,9 +219,11 @@ FindsAllIn default addrs before after =
     let unchanged : Type 0 = after ≡ before in
     Online (Fits addrs before find unchanged) unchanged
 
--- the same, and the span is stored
+-- the same, and the span is stored: that of no addresses is from 2^64 - 1 to 0
 abbrev pub FindsAllWithin : ℕ → List ℕ → List ℕ → List ℕ → SaxikoSpan → SaxikoSpan → PassState → ℤ
     → PassState → Type 0
 FindsAllWithin default addrs before after old span =
     let unchanged : Type 0 = (after ≡ before) × (span ≡ old) in
-    Online (Fits addrs before (FindsEach default addrs after span) unchanged) unchanged
+    let find : PassState → PassState → Type 0 = λ p q.
+    FindsEach default addrs after span p q × (addrs ≡ [] → span ≡ record { lo = 2 ^ 64 - 1; hi = 0 }) in
+    Online (Fits addrs before find unchanged) unchanged

@@ -2,7 +2,7 @@
 
 ghost use Rattle.std.specs.Prelude.{◌≡◌, ◌+◌, ◌^◌, ◌≤◌, MatchOption, MatchResult, length, map};
 ghost use Rattle.lpm_limits.specs.Limits.{IsConfig};
-ghost use Rattle.saxiko_c.specs.Loads.{IsBadRoute, IsLoaded, IsUnloaded, IsUnread, rule_of};
+ghost use Rattle.saxiko_c.specs.Loads.{AreReadable, IsBadRoute, IsLoaded, IsUnloaded, IsUnread, rule_of};
 
 use crate::handle::boxed;
 use crate::records::SaxikoRoute;
@@ -37,7 +37,7 @@ pub(crate) fn read(
     bad: &mut usize,
 ) -> Result<Vec<Rule<24, 8>>, i32>
     ensures { MatchResult result
-        (λ v. (v.items ≡ map rule_of routes.now) × (bad.new ≡ bad.old))
+        (λ v. (v.items ≡ map rule_of routes.now) × AreReadable routes.now × (bad.new ≡ bad.old))
         (λ status. IsUnread routes.now bad.old bad.new status) }
 {
     if routes.len() > MOST_SORTED {
@@ -69,10 +69,7 @@ pub(crate) fn load_table(
         (λ b. IsLoaded config routes.now bad.old bad.new b.value)
         (λ status. IsUnloaded config routes.now bad.old bad.new status) }
 {
-    let rules = match read(alloc, routes, bad) {
-        Ok(rules) => rules,
-        Err(status) => return Err(status),
-    };
+    let rules = read(alloc, routes, bad)?;
     match Fib::load(alloc, config, &rules) {
         Ok(Some(fib)) => boxed(alloc, fib),
         Ok(None) => Err(ENOSPC),

@@ -1,9 +1,8 @@
 //! The owner of a running table, at rest or in a grace period.
 
-ghost use Rattle.std.specs.Prelude.{◌≡◌, ◌≤◌, ◌↔◌, ℕ, IfOk, IsErrOf, OnErr, slice_get, slice_set, Some, None, [], ◌∷◌, true, false};
+ghost use Rattle.std.specs.Prelude.{◌≡◌, ◌≤◌, ◌↔◌, ◌⊎◌, IfErr, IfOk, IsErrOf, OnErr, slice_get, slice_set, Some, None, false};
 ghost use Rattle.lpm_limits.specs.declared.refusal.Refusal.{Refusal};
-ghost use Rattle.lpm_trace.specs.declared.step.WorkerStep.TheVariants.{StoreOffline};
-ghost use Rattle.shared_fib.specs.Passes.{IsBenchOf, IsPassOf, Makes, PassState};
+ghost use Rattle.shared_fib.specs.Passes.{IsBenchOf, IsPassOf, IsPutBack};
 
 use crate::stage::Stage;
 use lpm_limits::Refusal;
@@ -55,6 +54,8 @@ impl Owner {
         ensures no_such_worker { IsErrOf result Refusal.NoSuchWorker
             ↔ (self.old.writer.identity.initial.workers ≤ worker) }
         ensures taken { IsErrOf result Refusal.Taken ↔ (slice_get self.old.bench worker ≡ Some None) }
+        ensures refusals { IfErr result (λ e. (e ≡ Refusal.NoSuchWorker) ⊎ (e ≡ Refusal.Taken)
+            ⊎ (e ≡ Refusal.Memory)) }
         ensures unchanged { OnErr result (self.new ≡ self.old) }
         ensures same { self.new.writer ≡ self.old.writer }
         ensures stage { self.new.waits ≡ self.old.waits }
@@ -69,10 +70,7 @@ impl Owner {
     /// Takes a reader back, so that its number can be registered again. One that is online goes offline first.
     pub(crate) fn unregister_reader(&mut self, reader: Reader)
         requires own { reader.table ≡ self.old.writer.identity }
-        ensures back { (p : PassState)
-            × (self.new.bench ≡ slice_set self.old.bench reader.worker (Some p))
-            × (reader.online ≡ true → (place : ℕ) × Makes ((StoreOffline, place) ∷ []) reader p)
-            × (reader.online ≡ false → p ≡ reader) }
+        ensures back { IsPutBack self.old.bench reader self.new.bench }
         ensures own { IsBenchOf self.new.writer.identity self.new.bench }
         ensures same { self.new.writer ≡ self.old.writer }
         ensures stage { self.new.waits ≡ self.old.waits }

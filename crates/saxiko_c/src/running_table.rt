@@ -44,10 +44,7 @@ pub(crate) fn load_owner(
         (λ b. (bad.new ≡ bad.old) × IsLoadedRunning config routes.now b.value)
         (λ status. IsUnloaded config routes.now bad.old bad.new status) }
 {
-    let rules = match read(alloc, routes, bad) {
-        Ok(rules) => rules,
-        Err(status) => return Err(status),
-    };
+    let rules = read(alloc, routes, bad)?;
     match saxiko::Owner::load(alloc, config, &rules) {
         Ok(Some(owner)) => boxed(alloc, Owner::new(owner)),
         Ok(None) => Err(ENOSPC),

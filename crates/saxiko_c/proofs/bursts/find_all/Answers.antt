@@ -1,4 +1,4 @@
-use Rattle.std.proofs.Common.{◌≡◌, ◌≤◌, length, arith}
+use Rattle.std.proofs.Common.{◌≤◌, length, arith}
 use Rattle.saxiko_c.proofs.Pieces.{all_found, as_many}
 use Rattle.saxiko_c.proofs.bursts.find_all.Goals as goal
 
