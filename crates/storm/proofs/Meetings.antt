@@ -1,17 +1,26 @@
 -- What is so at each place of a list that changes, and passes that leave the bench.
-use Rattle.std.proofs.Common.{◌≡◌, ◌≢◌, ℕ, ◌+◌, ◌<◌, inl, inr, List, [], ◌∷◌, ◌++◌, length, map, get_or, set, ap, ◌∙◌, sym, subst, arith, get_or-set_same, get_or-set_other, length-set, Option, Some, None}
-use Rattle.std.specs.Prelude.{slice_set}
+use Rattle.std.proofs.Common.{◌≡◌, ◌≢◌, ℕ, ◌+◌, ◌<◌, inl, inr, List, [], ◌∷◌, ◌++◌, length, map, get_or, set, ap, ◌∙◌, sym, subst, arith, get_or-set_same, get_or-set_other, length-set, Option, Some, None, Bool, true, false, refl, slice_get}
+use Rattle.std.specs.Prelude.{cond, slice_set}
 use Rattle.std.proofs.lemmas.Bool.{cases_eq, cases_lt}
 use Rattle.std.proofs.lemmas.List.{get_or-append-add, get_or-map, get_or_append_left, length-append, length-map}
 use Rattle.std.proofs.lemmas.Option.{get_or_from_slice_get, slice_get_within}
 use Rattle.shared_fib.specs.Passes.{PassState}
-use Rattle.bulk.proofs.Meetings.{others_stay}
+use Rattle.bulk.specs.Desks.{IsAtBench}
+use Rattle.bulk.proofs.Meetings.{one_more_seated, others_stay}
 use Rattle.storm.specs.Workers.{AreInSeats, AreOfWorkers, EachAt, IsUnused}
 use Rattle.storm.specs.declared.workers.Worker.{Worker}
 
 -- where one worker's pass is taken, the others' stay at the bench, unused
 pub stays_unused : (passes : List (Option PassState)) (i k : ℕ) → k ≢ i → IsUnused passes k → IsUnused (slice_set passes i None) k
 stays_unused passes i k other at = (at.0, others_stay passes i k None other ∙ at.1, at.2)
+
+-- where the stuck worker's pass is taken too, none is at the bench
+pub all_seated : (old new : List (Option PassState)) (w : ℕ) (stuck : Bool) → (stuck ≡ true → IsAtBench old w)
+    → (stuck ≡ true → new ≡ slice_set old w None) → (stuck ≡ false → new ≡ old)
+    → ((k : ℕ) → k < w → slice_get old k ≡ Some None)
+    → (k : ℕ) → k < w + cond stuck 1 0 → slice_get new k ≡ Some None
+all_seated old new w true at taken same before k low = ap (λ b. slice_get b k) (taken refl) ∙ one_more_seated old w (at refl) before k low
+all_seated old new w false at taken same before k low = ap (λ b. slice_get b k) (same refl) ∙ before k (omega (arith, low))
 
 -- one element more, which is so at the last place
 pub each_push : {X : Type 0} (P : ℕ → X → Type 0) (xs : List X) (x : X) → EachAt P xs → P (length xs) x → EachAt P (xs ++ x ∷ [])

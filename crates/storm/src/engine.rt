@@ -1,6 +1,6 @@
 //! A storm on its table, to its report.
 
-ghost use Rattle.std.specs.Prelude.{◌≡◌, ℕ, ◌+◌, ◌^◌, ◌<◌, ◌≤◌, All, IfOk, IfErr, IfSome, None, true, length, slice_set, vec_len, vec_capacity};
+ghost use Rattle.std.specs.Prelude.{◌≡◌, ℕ, ◌+◌, ◌^◌, ◌<◌, ◌≤◌, All, IfOk, IfErr, IfSome, None, Some, false, true, length, slice_get, slice_set, vec_len, vec_capacity};
 ghost use Rattle.lpm_rules.specs.RuleMap.{rules_of};
 ghost use Rattle.shared_fib.specs.Passes.{IsBenchOf, IsFullBench};
 ghost use Rattle.shared_fib.specs.RunningTable.{initial_writer};
@@ -65,6 +65,7 @@ fn seat_all<const FIRST: u32, const SECOND: u32>(
     ensures own { IfOk result (λ _. IsBenchOf table.now bench.new) }
     ensures others { IfOk result (λ _. (k : ℕ) → count ≤ k → k < table.now.initial.workers
         → IsAtBench bench.new k) }
+    ensures seated { IfOk result (λ _. (k : ℕ) → k < count → slice_get bench.new k ≡ Some None) }
 {
     let mut workers = Vec::with_capacity(alloc, count)?;
     for number in 0..count {
@@ -81,7 +82,10 @@ fn seat_stuck<const FIRST: u32, const SECOND: u32>(
 ) -> Option<Pass>
     requires own { IsBenchOf table.now bench.old }
     requires pass { plan.now.has_stuck_worker ≡ true → IsAtBench bench.old plan.now.config.workers }
-    ensures { IfSome result (λ p. (p.table ≡ table.now) × (p.online ≡ true)) }
+    ensures online { IfSome result (λ p. (p.table ≡ table.now) × (p.online ≡ true)) }
+    ensures seated { plan.now.has_stuck_worker ≡ true
+        → bench.new ≡ slice_set bench.old plan.now.config.workers None }
+    ensures same { plan.now.has_stuck_worker ≡ false → bench.new ≡ bench.old }
 {
     if !plan.has_stuck_worker {
         return None;
@@ -194,6 +198,8 @@ pub fn run<R: Threads + Wait + Sync, G: Gate, const FIRST: u32, const SECOND: u3
     ensures limbo { IfOk result (λ r. r.table.limbo ≡ 0) }
     ensures versions { IfOk result (λ r. r.table.versions ≤ length plan.now.orders.now) }
     ensures failure { IfErr result (EndsStorm plan.now) }
+    ensures seated { IfOk result (λ _. (worker : ℕ) → worker < (limits_of plan.now).workers
+        → slice_get bench.new worker ≡ Some None) }
 {
     let limits = plan.limits();
     let Some(answers) = plan.answers() else {

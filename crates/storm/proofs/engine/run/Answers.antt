@@ -1,10 +1,12 @@
 use Rattle.std.proofs.Common.{arith, lit<, ℕ, ◌≡◌, ◌+◌, ap, subst, sym, true, All, Bool, List, length}
-use Rattle.std.specs.Prelude.{cond}
+use Rattle.std.specs.Prelude.{cond, IfOk, Result, Ok, Err}
 use Rattle.lpm_limits.specs.declared.config.Config.{Config}
 use Rattle.storm.specs.declared.workers.Worker.{Worker}
 use Rattle.storm.specs.Workers.{AreInSeats, IsOver}
 use Rattle.storm.specs.Writer.{HasMade}
 use Rattle.storm.specs.Storm.{HasMadeAll}
+use Rattle.bulk.specs.Desks.{IsAtBench}
+use Rattle.storm.proofs.Meetings.{all_seated}
 use Rattle.storm.proofs.engine.run.Goals as goal
 
 pub seat_stuck-stuck-requires : goal.seat_stuck-stuck-requires
@@ -42,3 +44,17 @@ finish-requires-after_bounds g c κs within =
     let len : length c.as_mut_slice-workers.result.now ≡ plan.config.workers = omega (arith, c.as_mut_slice-workers.ensures.len, ran.len, c.in_ok-workers.ensures.len) in
     let numbers = subst AreInSeats (sym slice) ran.seats in
     (lit< tt, (lit< tt, (lit< tt, (made, (over, (done, (numbers, (len, (c.requires.in_range.some, (c.in-Some.ensures.some, c.requires.addrs))))))))))
+
+pub returns-clause-seated : goal.returns-clause-seated
+returns-clause-seated g c =
+    let plan = c.args.plan.now in
+    let seats : c.args.table.now.initial.workers ≡ plan.config.workers + cond plan.has_stuck_worker 1 0 = c.requires.workers in
+    let waits : plan.has_stuck_worker ≡ true → IsAtBench c.seat_all.new.bench plan.config.workers = λ stuck.
+    let one : ◌≡◌ {A = ℕ} (cond plan.has_stuck_worker 1 0) 1 = ap (λ (b : Bool). cond b 1 0) stuck in
+    c.in_ok-workers.ensures.others plan.config.workers (omega arith) (omega (arith, seats, one)) in
+    in_each c.finish.result (all_seated _ _ plan.config.workers plan.has_stuck_worker waits
+    c.seat_stuck-stuck.ensures.seated c.seat_stuck-stuck.ensures.same c.in_ok-workers.ensures.seated)
+  where
+    in_each : {A E P : Type 0} (r : Result A E) → P → IfOk r (λ _. P)
+    in_each (Ok x) p = p
+    in_each (Err e) p = tt

@@ -1,4 +1,4 @@
-use Rattle.std.proofs.Common.{◌≡◌, ℕ, ◌<◌, ◌≤◌, All, vec_len, vec_capacity}
+use Rattle.std.proofs.Common.{◌≡◌, ℕ, ◌<◌, ◌≤◌, All, vec_len, vec_capacity, slice_get, Some, None}
 use Rattle.shared_fib.specs.Passes.{IsBenchOf}
 use Rattle.storm.specs.Workers.{AreInSeats, IsReadyFor, IsUnused}
 use Rattle.storm.proofs.engine.seat_all.Given as goal
@@ -10,6 +10,7 @@ invariant-loop-number g l = record {
   capacity : l.fn.count ≤ vec_capacity l.workers;
   own : IsBenchOf l.table l.bench;
   waiting : (k : ℕ) → l.number ≤ k → k < l.table.initial.workers → IsUnused l.bench k;
+  seated : (k : ℕ) → k < l.number → slice_get l.bench k ≡ Some None;
   ready : All (IsReadyFor l.table l.room) l.workers.items;
   seats : AreInSeats l.workers.items;
 }
