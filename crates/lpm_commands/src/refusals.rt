@@ -11,7 +11,7 @@ ghost use Rattle.lpm_commands.specs.FilledTable.{BringsGroup, Refuses};
 
 use lpm_files::Failure;
 use lpm_limits::{Config, Refusal};
-use lpm_rules::{Put, RuleFault, Rules};
+use lpm_rules::{Put, Rules};
 use route_text::Route;
 use std::alloc::Global;
 
@@ -129,11 +129,7 @@ fn put_route(
     ensures refuses { IfErr result (Refuses groups rules.old route.now.prefix) }
 {
     let more = usize::from(brings_group(rules, route));
-    let done = match rules.put(&route.prefix, route.hop) {
-        Ok(done) => done,
-        Err(RuleFault::TooManyRules) => return Err(Refusal::TooManyRules),
-        Err(RuleFault::Memory) => return Err(Refusal::Memory),
-    };
+    let done = rules.put(&route.prefix, route.hop)?;
     if more > groups - in_use {
         return Err(Refusal::NoGroups { oldest: None });
     }

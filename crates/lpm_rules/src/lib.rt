@@ -12,6 +12,8 @@ ghost use Rattle.lpm_bits.specs.Network.{prefix_of};
 ghost use Rattle.lpm_rules.specs.RuleMap.{AllNetworks, HasRoomFor, LacksRoomFor, with_rule, without_rule, AreInOrder, rules_of};
 ghost use Rattle.lpm_rules.specs.Deep.{IsBlockOf, IsDeepBlock, IsLastBefore, block_of, deep_count, deep_blocks};
 ghost use Rattle.lpm_rules.specs.Longest.{IsLongestHop, IsUncovered, IsCoverRule};
+ghost use Rattle.lpm_rules.specs.declared.RuleFault.TheVariants as fault;
+ghost use Rattle.lpm_limits.specs.declared.refusal.Refusal.TheVariants as refusal;
 
 pub mod laws;
 mod longest_match;
@@ -20,6 +22,7 @@ mod places;
 mod walk;
 
 use lpm_bits::{Hop, Prefix};
+use lpm_limits::Refusal;
 use maps::{maps_by_length, pairs_by_length};
 pub use places::{count_rules, place_of};
 use std::alloc::{AllocError, Global};
@@ -66,6 +69,19 @@ impl fmt::Display for RuleFault {
 
 impl Error for RuleFault {}
 
+/// The refusal of a table whose rule list has the fault.
+impl From<RuleFault> for Refusal {
+    ghost from_gives = { λ why told. (why ≡ fault.TooManyRules → told ≡ refusal.TooManyRules)
+        × (why ≡ fault.Memory → told ≡ refusal.Memory) };
+
+    fn from(fault: RuleFault) -> Self {
+        match fault {
+            RuleFault::TooManyRules => Self::TooManyRules,
+            RuleFault::Memory => Self::Memory,
+        }
+    }
+}
+
 /// The prefix has no rule.
 #[derive(Clone, Copy, Debug, PartialEq, Eq)]
 pub struct NoSuchRule;
@@ -77,6 +93,14 @@ impl fmt::Display for NoSuchRule {
 }
 
 impl Error for NoSuchRule {}
+
+impl From<NoSuchRule> for Refusal {
+    ghost from_gives = { λ _ told. told ≡ refusal.NoSuchRule };
+
+    fn from(_none: NoSuchRule) -> Self {
+        Self::NoSuchRule
+    }
+}
 
 /// A change of the rule list, or of what waits to be reclaimed.
 #[derive(Clone, Copy, Debug, PartialEq, Eq)]

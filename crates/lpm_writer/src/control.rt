@@ -19,7 +19,7 @@ use crate::Memory;
 use defer_queue::Reclaimed;
 use lpm_bits::{Hop, Prefix, Shape};
 use lpm_limits::{Config, Refusal};
-use lpm_rules::{Put, RuleFault, Rules};
+use lpm_rules::{Put, Rules};
 use lpm_trace::RuleChange;
 use lpm_update::Update;
 
@@ -91,11 +91,7 @@ pub fn add_rule<const FIRST: u32, const SECOND: u32, M: Memory>(
     }
     // The word is loaded here, so that the wait for it and the search of the rules overlap.
     let linked = is_linked::<FIRST, SECOND, M>(prefix, memory);
-    let put = match control.rules.put(prefix, hop) {
-        Ok(put) => put,
-        Err(RuleFault::TooManyRules) => return Err(Refusal::TooManyRules),
-        Err(RuleFault::Memory) => return Err(Refusal::Memory),
-    };
+    let put = control.rules.put(prefix, hop)?;
     if let Put::Unchanged = put {
         return Ok(put);
     }
@@ -151,16 +147,12 @@ pub fn delete_rule<const FIRST: u32, const SECOND: u32, M: Memory>(
         };
     }
     let cover = control.rules.cover(prefix);
-    match control.rules.remove(prefix) {
-        Ok(hop) => {
-            let last = is_last(&control.rules, prefix);
-            let update = Update::delete(prefix, cover, last);
-            let rule = RuleChange::TakeOut(u64::from(bits), u64::from(prefix.len()));
-            change::<FIRST, SECOND, M>(control, memory, update, &rule);
-            Ok(hop)
-        }
-        Err(_) => Err(Refusal::NoSuchRule),
-    }
+    let hop = control.rules.remove(prefix)?;
+    let last = is_last(&control.rules, prefix);
+    let update = Update::delete(prefix, cover, last);
+    let rule = RuleChange::TakeOut(u64::from(bits), u64::from(prefix.len()));
+    change::<FIRST, SECOND, M>(control, memory, update, &rule);
+    Ok(hop)
 }
 
 /// Deletes all rules, as one version, and returns how many there were. With none nothing changes, and

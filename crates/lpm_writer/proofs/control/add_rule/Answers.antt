@@ -49,7 +49,7 @@ ready : (g : Over) (c : After-add-update g) (put : RuleChange) → put ≡ Puts 
     → (initial : InitialState) (steps : List WriterStep) → g.M.Memory.did c.args.memory.now initial steps → Rests initial steps c.args.control.now
     → (later : List WriterStep) × g.M.Memory.did c.group_for.new.memory initial later
     × IsDue g.row.FIRST g.row.SECOND initial later c.args.control.now.config c.put.new.self c.group_for.new.pool c.args.control.now.versions c.add-update.result put
-    × Finds (by_writer g.M.Memory.does initial) g.row.FIRST g.row.SECOND (state_after initial steps).words.firsts c.args.prefix.now (c.is_linked-linked.new.memory, steps) c.args.control.now.pool (Ok c.in-Ok-group_for.group) (c.group_for.new.memory, later) c.group_for.new.pool
+    × Finds (by_writer g.M.Memory.does initial) g.row.FIRST g.row.SECOND (state_after initial steps).words.firsts c.args.prefix.now (c.is_linked-linked.new.memory, steps) c.args.control.now.pool (Ok c.in-Ok.group) (c.group_for.new.memory, later) c.group_for.new.pool
     × HasTokens (by_writer g.M.Memory.does initial) c.args.control.now.config (state_of c.args.control.now.rules.rules (c.is_linked-linked.new.memory, steps) c.args.control.now.pool c.args.control.now.versions)
 ready g c put is initial steps did rest =
     let f = g.row.FIRST in
@@ -60,13 +60,13 @@ ready g c put is initial steps did rest =
     let m = c.is_linked-linked.new.memory in
     let t = by_writer k.does initial in
     let x : g.row.M.Denot × List WriterStep = (m, steps) in
-    let group = c.in-Ok-group_for.group in
+    let group = c.in-Ok.group in
     let mid = c.group_for.new.pool in
     let y = c.group_for.new.memory in
     let u = c.add-update in
     let began : k.did m initial steps = subst (λ y. k.did y initial steps) (sym c.is_linked-linked.ensures.same) did in
     let low = shr_below p.bits f s c.bits-bits.ensures.network.1 in
-    let found = c.in-Ok-group_for.ensures.finds initial steps began (between_take initial steps l.pool rest.between rest.keeps) in
+    let found = c.in-Ok.ensures.finds initial steps began (between_take initial steps l.pool rest.between rest.keeps) in
     let finds = subst (λ (V : Words). Finds t f s V.firsts p x l.pool (Ok group) (y, found.0) mid) (g.met.M.Memory.shows m initial steps began).0 found.4 in
     let nothing = after_find k.does initial f s (state_after initial steps).words.firsts p x l.pool (Ok group) (y, found.0) mid finds in
     let sound : IsNetwork (f + s) p × (c.args.hop < 2 ^ 24) = (c.bits-bits.ensures.network, subst (λ n. n < 2 ^ 24) c.number-number.ensures.value c.number-number.ensures.bound) in
@@ -74,7 +74,7 @@ ready g c put is initial steps did rest =
       found.0,
       found.1,
       found_due f s initial steps l.config l.rules l.pool l.versions rest p low t x c.args.hop group (y, found.0) mid found.0 c.put.new.self u.result put
-          finds found.2 nothing found.3 c.in-Ok-group_for.ensures.queued u.ensures.begun u.ensures.fills u.ensures.held c.in-Ok.ensures.ok is sound left,
+          finds found.2 nothing found.3 c.in-Ok.ensures.queued u.ensures.begun u.ensures.fills u.ensures.held c.in_ok-put.ensures.ok is sound left,
       finds,
       left,
     )
@@ -88,7 +88,7 @@ change-requires g c =
 -- what the contract says of a rule that was put in
 abbrev Added : (g : Over) → After-change g → Type 0
 Added g c = Commands g.M.Memory.did c.args.control.now c.args.memory.now c.change.new.control c.change.new.memory
-    (λ s x z. Adds (by_writer g.M.Memory.does s) g.row.FIRST g.row.SECOND c.args.control.now.config x c.args.prefix.now c.args.hop (Ok c.in-Ok.put) z)
+    (λ s x z. Adds (by_writer g.M.Memory.does s) g.row.FIRST g.row.SECOND c.args.control.now.config x c.args.prefix.now c.args.hop (Ok c.in_ok-put.put) z)
 
 added : (g : Over) (c : After-change g) → Added g c
 added g c = λ initial steps did rest.
@@ -101,8 +101,8 @@ added g c = λ initial steps did rest.
     let z = c.change.new.memory in
     let new = c.change.new.control in
     let then = c.change.ensures in
-    let put = c.in-Ok.ensures in
-    let changed : c.in-Ok.put ≢ Unchanged = search rules in
+    let put = c.in_ok-put.ensures in
+    let changed : c.in_ok-put.put ≢ Unchanged = search rules in
     let low = shr_below p.bits f s c.bits-bits.ensures.network.1 in
     let at : After-add-update g = search in
     let d = ready g at (Puts p.bits p.len c.args.hop) refl initial steps did rest in
@@ -112,8 +112,8 @@ added g c = λ initial steps did rest.
       made.0,
       made.1,
       made.2,
-      subst (λ y. Adds t f s l.config (state_of l.rules.rules (y, steps) l.pool l.versions) p c.args.hop (Ok c.in-Ok.put) (state_of new.rules.rules (z, made.0) new.pool new.versions)) c.is_linked-linked.ensures.same
-          (found_adds f s initial steps l.config l.rules l.pool l.versions rest p low t x c.args.hop c.in-Ok.put c.in-Ok-group_for.group (c.group_for.new.memory, d.0) (z, made.0) c.group_for.new.pool new.pool new.rules new.versions
+      subst (λ y. Adds t f s l.config (state_of l.rules.rules (y, steps) l.pool l.versions) p c.args.hop (Ok c.in_ok-put.put) (state_of new.rules.rules (z, made.0) new.pool new.versions)) c.is_linked-linked.ensures.same
+          (found_adds f s initial steps l.config l.rules l.pool l.versions rest p low t x c.args.hop c.in_ok-put.put c.in-Ok.group (c.group_for.new.memory, d.0) (z, made.0) c.group_for.new.pool new.pool new.rules new.versions
           d.3 made.3 linked put_in then.versions changed put.replaced.0 (λ e. put.new.0 (inl e)) d.4),
     )
 
@@ -131,21 +131,21 @@ added_least g c =
     let d = ready g at (Puts p.bits p.len c.args.hop) refl r.0 r.1 r.2 r.3 in
     let made = then.changed r.0 d.0 d.1 (subst (IsDue f s r.0 d.0 l.config c.put.new.self c.group_for.new.pool l.versions c.add-update.result) (cc) d.2) in
     let x : g.row.M.Denot × List WriterStep = (c.is_linked-linked.new.memory, r.1) in
-    let was = found_linked f s r.0 r.1 l.config l.rules l.pool l.versions r.3 p low (by_writer g.M.Memory.does r.0) x c.args.hop c.in-Ok-group_for.group (c.group_for.new.memory, d.0) c.group_for.new.pool d.3 in
+    let was = found_linked f s r.0 r.1 l.config l.rules l.pool l.versions r.3 p low (by_writer g.M.Memory.does r.0) x c.args.hop c.in-Ok.group (c.group_for.new.memory, d.0) c.group_for.new.pool d.3 in
     let now = linked_resting f s r.0 made.0 new.config new.rules new.pool new.versions made.2 in
-    let put_in = ap (λ (r : RuleList). r.rules) (then.rules ∙ c.in-Ok.ensures.ok) in
-    subst (LinksLeast l.pool.groups) (sym (then.stays (now ∙ ap (groups_in_use f s) put_in ∙ sym was))) c.in-Ok-group_for.ensures.least
+    let put_in = ap (λ (r : RuleList). r.rules) (then.rules ∙ c.in_ok-put.ensures.ok) in
+    subst (LinksLeast l.pool.groups) (sym (then.stays (now ∙ ap (groups_in_use f s) put_in ∙ sym was))) c.in-Ok.ensures.least
 
 -- the return's goal has the first name where it ends an arm of a `match`, and the second where it ends the
 -- function. Rattle takes the answer that it asks for
-pub returns-in-Ok-group_for-clause-adds : (g : Over) (c : After-change g) → Added g c
-returns-in-Ok-group_for-clause-adds = added
+pub returns-in-Ok-clause-adds : (g : Over) (c : After-change g) → Added g c
+returns-in-Ok-clause-adds = added
 
 pub returns-clause-adds : (g : Over) (c : After-change g) → Added g c
 returns-clause-adds = added
 
-pub returns-in-Ok-group_for-clause-least : (g : Over) (c : After-change g) → LinksLeast c.args.control.now.pool.groups c.change.new.control.pool.groups
-returns-in-Ok-group_for-clause-least = added_least
+pub returns-in-Ok-clause-least : (g : Over) (c : After-change g) → LinksLeast c.args.control.now.pool.groups c.change.new.control.pool.groups
+returns-in-Ok-clause-least = added_least
 
 pub returns-clause-least : (g : Over) (c : After-change g) → LinksLeast c.args.control.now.pool.groups c.change.new.control.pool.groups
 returns-clause-least = added_least
@@ -164,7 +164,7 @@ returns-in-Err-clause-adds g c = λ initial steps did rest.
     let began : k.did m initial steps = subst (λ y. k.did y initial steps) (sym same_memory) did in
     let t = by_writer k.does initial in
     let x : g.row.M.Denot × List WriterStep = (m, steps) in
-    let put = c.in-Ok.ensures in
+    let put = c.in_ok-put.ensures in
     let low = shr_below p.bits f s c.bits-bits.ensures.network.1 in
     let oldest = c.in-Err.oldest in
     let mid = c.group_for.new.pool in
@@ -174,7 +174,7 @@ returns-in-Err-clause-adds g c = λ initial steps did rest.
     let nothing = after_find k.does initial f s (state_after initial steps).words.firsts p x l.pool (Err oldest) (y, found.0) mid finds in
     let none = absent f s initial steps l.config l.rules l.pool l.versions rest p low finds.0 in
     let back = taken_back l.rules p h c.put.new.self c.remove.new.self c.remove.result put.ok none c.remove.ensures.hop c.remove.ensures.ok in
-    let room = put_room l.rules.rules p h l.rules.max c.in-Ok.put put.unchanged.0 put.replaced.0 (λ e. put.new.0 (inl e)) none in
+    let room = put_room l.rules.rules p h l.rules.max c.in_ok-put.put put.unchanged.0 put.replaced.0 (λ e. put.new.0 (inl e)) none in
     let left = has_tokens t l.config (state_of l.rules.rules x l.pool l.versions) c.is_exhausted.result c.if-is_exhausted.false (c.is_exhausted.ensures initial steps did) in
     let stays = c.in-Err.ensures.unchanged in
     let tied = subst (λ xs. IsTied f xs (group_at (state_after initial steps).words.firsts)) (sym stays.0) rest.tied in

@@ -34,11 +34,11 @@ due g c taken is initial steps did rest =
     let l = c.args.control.now in
     let p = c.args.prefix.now in
     let u = c.delete-update in
-    let last = subst (λ R. LastFits f s R p c.is_last-last.result) (ap (λ (y : RuleList). y.rules) c.in-Ok.ensures.ok) c.is_last-last.ensures in
-    let there = subst IsSome (sym c.in-Ok.ensures.hop) refl in
+    let last = subst (λ R. LastFits f s R p c.is_last-last.result) (ap (λ (y : RuleList). y.rules) c.in_ok-hop.ensures.ok) c.is_last-last.ensures in
+    let there = subst IsSome (sym c.in_ok-hop.ensures.hop) refl in
     let begins = u.ensures.begun l.rules.rules (state_after initial steps).words rest.represents there c.cover-cover.ensures last in
     subst (IsDue f s initial steps l.config c.remove.new.self l.pool l.versions u.result) (sym is)
-    (due_at_rest f s initial steps l.config l.rules c.remove.new.self l.pool l.versions rest (remove l.rules.rules p) u.result (TakeOut p.bits p.len) begins c.in-Ok.ensures.ok refl c.bits-bits.ensures.network u.ensures.fills u.ensures.held (left g c initial steps did))
+    (due_at_rest f s initial steps l.config l.rules c.remove.new.self l.pool l.versions rest (remove l.rules.rules p) u.result (TakeOut p.bits p.len) begins c.in_ok-hop.ensures.ok refl c.bits-bits.ensures.network u.ensures.fills u.ensures.held (left g c initial steps did))
 
 pub change-requires : goal.change-requires
 change-requires g c = let r = c.requires.rests in (lit< tt, (r.0, r.1, r.2, due g (goal.at.change-requires g c).After-delete-update _ (cc) r.0 r.1 r.2 r.3))
@@ -46,22 +46,22 @@ change-requires g c = let r = c.requires.rests in (lit< tt, (r.0, r.1, r.2, due 
 -- what the contract says of a rule that was deleted
 abbrev Deleted : (g : Over) → After-change g → Type 0
 Deleted g c = Commands g.M.Memory.did c.args.control.now c.args.memory.now c.change.new.control c.change.new.memory
-    (λ s x z. Deletes (by_writer g.M.Memory.does s) g.row.FIRST g.row.SECOND c.args.control.now.config x c.args.prefix.now (Ok c.in-Ok.hop) z)
+    (λ s x z. Deletes (by_writer g.M.Memory.does s) g.row.FIRST g.row.SECOND c.args.control.now.config x c.args.prefix.now (Ok c.in_ok-hop.hop) z)
 
-pub returns-in-Ok-clause-deletes : (g : Over) (c : After-change g) → Deleted g c
-returns-in-Ok-clause-deletes g c = λ initial steps did rest.
+pub returns-clause-deletes : (g : Over) (c : After-change g) → Deleted g c
+returns-clause-deletes g c = λ initial steps did rest.
     let l = c.args.control.now in
     let new = c.change.new.control in
     let then = c.change.ensures in
     let R = remove l.rules.rules c.args.prefix.now in
     let at : After-delete-update g = search in
     let made = then.changed initial steps did (due g at _ (cc) initial steps did rest) in
-    let gone = ap (λ (y : RuleList). y.rules) (then.rules ∙ c.in-Ok.ensures.ok) in (
+    let gone = ap (λ (y : RuleList). y.rules) (then.rules ∙ c.in_ok-hop.ensures.ok) in (
       made.0,
       made.1,
       made.2,
       (
-        c.in-Ok.ensures.hop,
+        c.in_ok-hop.ensures.hop,
         shrinks (by_writer g.M.Memory.does initial) g.row.FIRST g.row.SECOND initial steps made.0 l.config new.config l.rules new.rules l.pool new.pool l.versions new.versions R
             (c.args.memory.now, steps) (c.change.new.memory, made.0) rest made.2 gone then.versions (left g at initial steps did) made.3,
       ),
