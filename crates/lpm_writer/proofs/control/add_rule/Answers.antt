@@ -3,7 +3,7 @@ use Rattle.std.specs.Prelude.{IsSome, IsTrue, ◌↔◌, ◌/◌, Ok, Err}
 use Rattle.std.proofs.lemmas.Nat.{shr_below}
 use Rattle.lpm_bits.specs.Network.{IsNetwork}
 use Rattle.lpm_cells.specs.Words.{Words, IsWords}
-use Rattle.lpm_rules.specs.RuleMap.{RuleList}
+use Rattle.lpm_rules.specs.RuleMap.{RuleList, with_rule}
 use Rattle.lpm_rules.specs.declared.Put.TheVariants.{Unchanged}
 use Rattle.lpm_limits.specs.declared.refusal.Refusal.TheVariants.{NoGroups}
 use Rattle.fib_model.specs.Outcomes.{Adds, groups_in_use}
@@ -14,7 +14,9 @@ use Rattle.lpm_trace.specs.declared.step.RuleChange.{RuleChange}
 use Rattle.lpm_trace.specs.declared.step.RuleChange.TheVariants.{Put as Puts}
 use Rattle.lpm_trace.specs.declared.step.WriterStep.{WriterStep}
 use Rattle.lpm_trace.specs.States.{InitialState, state_after}
-use Rattle.lpm_writer.specs.TakenGroup.{Finds, LinksLeast}
+use Rattle.lpm_writer.specs.Limbo.{IsQueued}
+use Rattle.lpm_writer.specs.declared.pool.GroupPool.{GroupPool}
+use Rattle.lpm_writer.specs.TakenGroup.{Finds, LinksLeast, TakesAt, found_by}
 use Rattle.lpm_writer.specs.MemorySteps.{by_writer}
 use Rattle.lpm_writer.specs.Rest.{IsResting, IsDue, state_of}
 use Rattle.lpm_writer.specs.Commands.{Commands, Rests}
@@ -22,7 +24,7 @@ use Rattle.lpm_writer.proofs.StepsAlone.{after_find}
 use Rattle.lpm_writer.proofs.Rests.{linked_resting, between_take, has_tokens, rests_still}
 use Rattle.lpm_writer.proofs.Additions.{absent, found_due, found_linked, found_adds, none_adds, put_room, taken_back}
 use Rattle.lpm_writer.proofs.control.add_rule.Given.{Over}
-use Rattle.lpm_writer.proofs.control.add_rule.Goals.{After-add-update, After-change}
+use Rattle.lpm_writer.proofs.control.add_rule.Goals.{After-add-update, After-change, After-remove}
 use Rattle.lpm_writer.proofs.control.add_rule.Goals as goal
 
 pub is_linked-linked-requires : goal.is_linked-linked-requires
@@ -44,14 +46,22 @@ group_for-requires g c =
       ),
     )
 
--- the group was found by checks alone, and the update is due, for the change of the rules that puts this one in
-ready : (g : Over) (c : After-add-update g) (put : RuleChange) → put ≡ Puts c.args.prefix.now.bits c.args.prefix.now.len c.args.hop
+-- the rule was put in, and a group was found for it by checks alone
+record HasGroup (g : Over) (c : After-add-update g) (rules : RuleList) (memory : g.row.M.Denot) (pool : GroupPool) : Type 0 where
+  put : rules ≡ with_rule c.args.control.now.rules c.args.prefix.now c.args.hop
+  finds : TakesAt g.M.Memory.did c.is_linked-linked.new.memory c.args.control.now.pool memory pool (found_by (Ok c.in-Ok.group))
+      (λ s x z. Finds (by_writer g.M.Memory.does s) g.row.FIRST g.row.SECOND (g.M.Cells.words c.is_linked-linked.new.memory).firsts c.args.prefix.now x c.args.control.now.pool (Ok c.in-Ok.group) z pool)
+  queued : IsQueued pool.groups pool.queue
+
+-- so the update is due, for the change of the rules that puts this one in
+ready : (g : Over) (c : After-add-update g) (rules : RuleList) (memory : g.row.M.Denot) (pool : GroupPool) → HasGroup g c rules memory pool
+    → (put : RuleChange) → put ≡ Puts c.args.prefix.now.bits c.args.prefix.now.len c.args.hop
     → (initial : InitialState) (steps : List WriterStep) → g.M.Memory.did c.args.memory.now initial steps → Rests initial steps c.args.control.now
-    → (later : List WriterStep) × g.M.Memory.did c.group_for.new.memory initial later
-    × IsDue g.row.FIRST g.row.SECOND initial later c.args.control.now.config c.put.new.self c.group_for.new.pool c.args.control.now.versions c.add-update.result put
-    × Finds (by_writer g.M.Memory.does initial) g.row.FIRST g.row.SECOND (state_after initial steps).words.firsts c.args.prefix.now (c.is_linked-linked.new.memory, steps) c.args.control.now.pool (Ok c.in-Ok.group) (c.group_for.new.memory, later) c.group_for.new.pool
+    → (later : List WriterStep) × g.M.Memory.did memory initial later
+    × IsDue g.row.FIRST g.row.SECOND initial later c.args.control.now.config rules pool c.args.control.now.versions c.add-update.result put
+    × Finds (by_writer g.M.Memory.does initial) g.row.FIRST g.row.SECOND (state_after initial steps).words.firsts c.args.prefix.now (c.is_linked-linked.new.memory, steps) c.args.control.now.pool (Ok c.in-Ok.group) (memory, later) pool
     × HasTokens (by_writer g.M.Memory.does initial) c.args.control.now.config (state_of c.args.control.now.rules.rules (c.is_linked-linked.new.memory, steps) c.args.control.now.pool c.args.control.now.versions)
-ready g c put is initial steps did rest =
+ready g c rules memory pool has put is initial steps did rest =
     let f = g.row.FIRST in
     let s = g.row.SECOND in
     let k = g.M.Memory in
@@ -61,28 +71,27 @@ ready g c put is initial steps did rest =
     let t = by_writer k.does initial in
     let x : g.row.M.Denot × List WriterStep = (m, steps) in
     let group = c.in-Ok.group in
-    let mid = c.group_for.new.pool in
-    let y = c.group_for.new.memory in
     let u = c.add-update in
     let began : k.did m initial steps = subst (λ y. k.did y initial steps) (sym c.is_linked-linked.ensures.same) did in
     let low = shr_below p.bits f s c.bits-bits.ensures.network.1 in
-    let found = c.in-Ok.ensures.finds initial steps began (between_take initial steps l.pool rest.between rest.keeps) in
-    let finds = subst (λ (V : Words). Finds t f s V.firsts p x l.pool (Ok group) (y, found.0) mid) (g.met.M.Memory.shows m initial steps began).0 found.4 in
-    let nothing = after_find k.does initial f s (state_after initial steps).words.firsts p x l.pool (Ok group) (y, found.0) mid finds in
+    let found = has.finds initial steps began (between_take initial steps l.pool rest.between rest.keeps) in
+    let finds = subst (λ (V : Words). Finds t f s V.firsts p x l.pool (Ok group) (memory, found.0) pool) (g.met.M.Memory.shows m initial steps began).0 found.4 in
+    let nothing = after_find k.does initial f s (state_after initial steps).words.firsts p x l.pool (Ok group) (memory, found.0) pool finds in
     let sound : IsNetwork (f + s) p × (c.args.hop < 2 ^ 24) = (c.bits-bits.ensures.network, subst (λ n. n < 2 ^ 24) c.number-number.ensures.value c.number-number.ensures.bound) in
     let left = has_tokens t l.config (state_of l.rules.rules x l.pool l.versions) c.is_exhausted.result c.if-is_exhausted.false (c.is_exhausted.ensures initial steps did) in (
       found.0,
       found.1,
-      found_due f s initial steps l.config l.rules l.pool l.versions rest p low t x c.args.hop group (y, found.0) mid found.0 c.put.new.self u.result put
-          finds found.2 nothing found.3 c.in-Ok.ensures.queued u.ensures.begun u.ensures.fills u.ensures.held c.in_ok-put.ensures.ok is sound left,
+      found_due f s initial steps l.config l.rules l.pool l.versions rest p low t x c.args.hop group (memory, found.0) pool found.0 rules u.result put
+          finds found.2 nothing found.3 has.queued u.ensures.begun u.ensures.fills u.ensures.held has.put is sound left,
       finds,
       left,
     )
 
 pub change-requires : goal.change-requires
 change-requires g c =
+    let at = (goal.at.change-requires g c).After-add-update in
     let r = c.requires.rests in
-    let d = ready g (goal.at.change-requires g c).After-add-update _ (cc) r.0 r.1 r.2 r.3 in
+    let d = ready g at _ _ _ (record { put = search rules; finds = c.in-Ok.ensures.finds; queued = c.in-Ok.ensures.queued }) _ (cc) r.0 r.1 r.2 r.3 in
     (lit< tt, (r.0, d.0, d.1, d.2))
 
 -- what the contract says of a rule that was put in
@@ -105,15 +114,15 @@ added g c = λ initial steps did rest.
     let changed : c.in_ok-put.put ≢ Unchanged = search rules in
     let low = shr_below p.bits f s c.bits-bits.ensures.network.1 in
     let at : After-add-update g = search in
-    let d = ready g at (Puts p.bits p.len c.args.hop) refl initial steps did rest in
-    let made = then.changed initial d.0 d.1 (subst (IsDue f s initial d.0 l.config c.put.new.self c.group_for.new.pool l.versions c.add-update.result) (cc) d.2) in
+    let d = ready g at _ _ _ (record { put = put.ok; finds = c.in-Ok.ensures.finds; queued = c.in-Ok.ensures.queued }) (Puts p.bits p.len c.args.hop) refl initial steps did rest in
+    let made = then.changed initial d.0 d.1 (subst (IsDue f s initial d.0 l.config _ _ l.versions c.add-update.result) (cc) d.2) in
     let put_in = ap (λ (r : RuleList). r.rules) (then.rules ∙ put.ok) in
     let linked = linked_resting f s initial made.0 new.config new.rules new.pool new.versions made.2 in (
       made.0,
       made.1,
       made.2,
       subst (λ y. Adds t f s l.config (state_of l.rules.rules (y, steps) l.pool l.versions) p c.args.hop (Ok c.in_ok-put.put) (state_of new.rules.rules (z, made.0) new.pool new.versions)) c.is_linked-linked.ensures.same
-          (found_adds f s initial steps l.config l.rules l.pool l.versions rest p low t x c.args.hop c.in_ok-put.put c.in-Ok.group (c.group_for.new.memory, d.0) (z, made.0) c.group_for.new.pool new.pool new.rules new.versions
+          (found_adds f s initial steps l.config l.rules l.pool l.versions rest p low t x c.args.hop c.in_ok-put.put c.in-Ok.group (_, d.0) (z, made.0) _ new.pool new.rules new.versions
           d.3 made.3 linked put_in then.versions changed put.replaced.0 (λ e. put.new.0 (inl e)) d.4),
     )
 
@@ -128,12 +137,13 @@ added_least g c =
     let then = c.change.ensures in
     let low = shr_below p.bits f s c.bits-bits.ensures.network.1 in
     let at : After-add-update g = search in
-    let d = ready g at (Puts p.bits p.len c.args.hop) refl r.0 r.1 r.2 r.3 in
-    let made = then.changed r.0 d.0 d.1 (subst (IsDue f s r.0 d.0 l.config c.put.new.self c.group_for.new.pool l.versions c.add-update.result) (cc) d.2) in
+    let put = c.in_ok-put.ensures in
+    let d = ready g at _ _ _ (record { put = put.ok; finds = c.in-Ok.ensures.finds; queued = c.in-Ok.ensures.queued }) (Puts p.bits p.len c.args.hop) refl r.0 r.1 r.2 r.3 in
+    let made = then.changed r.0 d.0 d.1 (subst (IsDue f s r.0 d.0 l.config _ _ l.versions c.add-update.result) (cc) d.2) in
     let x : g.row.M.Denot × List WriterStep = (c.is_linked-linked.new.memory, r.1) in
-    let was = found_linked f s r.0 r.1 l.config l.rules l.pool l.versions r.3 p low (by_writer g.M.Memory.does r.0) x c.args.hop c.in-Ok.group (c.group_for.new.memory, d.0) c.group_for.new.pool d.3 in
+    let was = found_linked f s r.0 r.1 l.config l.rules l.pool l.versions r.3 p low (by_writer g.M.Memory.does r.0) x c.args.hop c.in-Ok.group (_, d.0) _ d.3 in
     let now = linked_resting f s r.0 made.0 new.config new.rules new.pool new.versions made.2 in
-    let put_in = ap (λ (r : RuleList). r.rules) (then.rules ∙ c.in_ok-put.ensures.ok) in
+    let put_in = ap (λ (r : RuleList). r.rules) (then.rules ∙ put.ok) in
     subst (LinksLeast l.pool.groups) (sym (then.stays (now ∙ ap (groups_in_use f s) put_in ∙ sym was))) c.in-Ok.ensures.least
 
 -- the return's goal has the first name where it ends an arm of a `match`, and the second where it ends the
@@ -150,8 +160,14 @@ returns-in-Ok-clause-least = added_least
 pub returns-clause-least : (g : Over) (c : After-change g) → LinksLeast c.args.control.now.pool.groups c.change.new.control.pool.groups
 returns-clause-least = added_least
 
-pub returns-in-Err-clause-adds : goal.returns-in-Err-clause-adds
-returns-in-Err-clause-adds g c = λ initial steps did rest.
+-- the rule was taken out again, since no group was found for it, by checks alone
+refused : (g : Over) (c : After-remove g) (memory : g.row.M.Denot) (pool : GroupPool)
+    → TakesAt g.M.Memory.did c.is_linked-linked.new.memory c.args.control.now.pool memory pool (found_by (Err c.in-Err.oldest))
+    (λ s x z. Finds (by_writer g.M.Memory.does s) g.row.FIRST g.row.SECOND (g.M.Cells.words c.is_linked-linked.new.memory).firsts c.args.prefix.now x c.args.control.now.pool (Err c.in-Err.oldest) z pool)
+    → (pool.groups ≡ c.args.control.now.pool.groups) × (pool.queue ≡ c.args.control.now.pool.queue) → IsQueued pool.groups pool.queue
+    → Commands g.M.Memory.did c.args.control.now c.args.memory.now (record c.args.control.now { rules = c.remove.new.self; pool = pool }) memory
+    (λ s x z. Adds (by_writer g.M.Memory.does s) g.row.FIRST g.row.SECOND c.args.control.now.config x c.args.prefix.now c.args.hop (Err (NoGroups c.in-Err.oldest)) z)
+refused g c memory pool finds_none stays queued = λ initial steps did rest.
     let f = g.row.FIRST in
     let s = g.row.SECOND in
     let k = g.M.Memory in
@@ -167,25 +183,25 @@ returns-in-Err-clause-adds g c = λ initial steps did rest.
     let put = c.in_ok-put.ensures in
     let low = shr_below p.bits f s c.bits-bits.ensures.network.1 in
     let oldest = c.in-Err.oldest in
-    let mid = c.group_for.new.pool in
-    let y = c.group_for.new.memory in
-    let found = c.in-Err.ensures.finds initial steps began (between_take initial steps l.pool rest.between rest.keeps) in
-    let finds = subst (λ (V : Words). Finds t f s V.firsts p x l.pool (Err oldest) (y, found.0) mid) (met.shows m initial steps began).0 found.4 in
-    let nothing = after_find k.does initial f s (state_after initial steps).words.firsts p x l.pool (Err oldest) (y, found.0) mid finds in
+    let found = finds_none initial steps began (between_take initial steps l.pool rest.between rest.keeps) in
+    let finds = subst (λ (V : Words). Finds t f s V.firsts p x l.pool (Err oldest) (memory, found.0) pool) (met.shows m initial steps began).0 found.4 in
+    let nothing = after_find k.does initial f s (state_after initial steps).words.firsts p x l.pool (Err oldest) (memory, found.0) pool finds in
     let none = absent f s initial steps l.config l.rules l.pool l.versions rest p low finds.0 in
-    let back = taken_back l.rules p h c.put.new.self c.remove.new.self c.remove.result put.ok none c.remove.ensures.hop c.remove.ensures.ok in
+    let back = taken_back l.rules p h _ c.remove.new.self c.remove.result put.ok none c.remove.ensures.hop c.remove.ensures.ok in
     let room = put_room l.rules.rules p h l.rules.max c.in_ok-put.put put.unchanged.0 put.replaced.0 (λ e. put.new.0 (inl e)) none in
     let left = has_tokens t l.config (state_of l.rules.rules x l.pool l.versions) c.is_exhausted.result c.if-is_exhausted.false (c.is_exhausted.ensures initial steps did) in
-    let stays = c.in-Err.ensures.unchanged in
     let tied = subst (λ xs. IsTied f xs (group_at (state_after initial steps).words.firsts)) (sym stays.0) rest.tied in
-    let after = rests_still f s initial steps found.0 l.config l.rules l.pool mid l.versions rest found.2 nothing found.3 tied c.in-Err.ensures.queued (ap length stays.0) in
-    let adds = none_adds f s initial steps l.config l.rules l.pool l.versions rest p low t x h oldest (y, found.0) mid finds stays.1 room left in (
+    let after = rests_still f s initial steps found.0 l.config l.rules l.pool pool l.versions rest found.2 nothing found.3 tied queued (ap length stays.0) in
+    let adds = none_adds f s initial steps l.config l.rules l.pool l.versions rest p low t x h oldest (memory, found.0) pool finds stays.1 room left in (
       found.0,
       found.1,
-      subst (λ (r : RuleList). IsResting f s initial found.0 l.config r mid l.versions) (sym back) after,
-      subst (λ m. Adds t f s l.config (state_of l.rules.rules (m, steps) l.pool l.versions) p h (Err (NoGroups oldest)) (state_of c.remove.new.self.rules (y, found.0) mid l.versions)) same_memory
-          (subst (λ (r : RuleList). Adds t f s l.config (state_of l.rules.rules x l.pool l.versions) p h (Err (NoGroups oldest)) (state_of r.rules (y, found.0) mid l.versions)) (sym back) adds),
+      subst (λ (r : RuleList). IsResting f s initial found.0 l.config r pool l.versions) (sym back) after,
+      subst (λ m. Adds t f s l.config (state_of l.rules.rules (m, steps) l.pool l.versions) p h (Err (NoGroups oldest)) (state_of c.remove.new.self.rules (memory, found.0) pool l.versions)) same_memory
+          (subst (λ (r : RuleList). Adds t f s l.config (state_of l.rules.rules x l.pool l.versions) p h (Err (NoGroups oldest)) (state_of r.rules (memory, found.0) pool l.versions)) (sym back) adds),
     )
+
+pub returns-in-Err-clause-adds : goal.returns-in-Err-clause-adds
+returns-in-Err-clause-adds g c = refused g c _ _ c.in-Err.ensures.finds c.in-Err.ensures.unchanged c.in-Err.ensures.queued
 
 pub returns-in-Err-clause-least : goal.returns-in-Err-clause-least
 returns-in-Err-clause-least g c = c.in-Err.ensures.least
