@@ -78,6 +78,7 @@ impl<const FIRST: u32, const SECOND: u32> Fib<FIRST, SECOND> {
         requires shape { IsShape FIRST SECOND }
         ensures opened { IfOk result (λ o. IfSome o (λ fib.
             fib ≡ initial_fib_with config (rules_of rules.now))) }
+        ensures few { IfOk result (λ _. length rules.now ≤ 2 ^ 26) }
         ensures suffice { IfOk result (λ o. IfSome o (λ _.
             AreSufficient FIRST SECOND config (rules_of rules.now))) }
         ensures none { IfOk result (λ o. IsNone o

@@ -29,6 +29,7 @@ pub fn sorted_rules<const FIRST: u32, const SECOND: u32>(
     alloc: Global,
     rules: &[Rule<FIRST, SECOND>],
 ) -> Result<Vec<Rule<FIRST, SECOND>>, AllocError>
+    ensures few { IfOk result (λ _. length rules.now ≤ 2 ^ 26) }
     ensures ordered { IfOk result (λ v. AreInOrder v.items) }
     ensures same { IfOk result (λ v. rules_of v.items ≡ rules_of rules.now) }
 {

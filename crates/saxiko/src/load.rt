@@ -1,6 +1,6 @@
 //! Running tables that open with the rules of a list.
 
-ghost use Rattle.std.specs.Prelude.{◌≡◌, ◌↔◌, IfOk, IfErr, IfSome, IsNone};
+ghost use Rattle.std.specs.Prelude.{◌≡◌, ◌↔◌, ◌^◌, ◌≤◌, length, IfOk, IfErr, IfSome, IsNone};
 ghost use Rattle.lpm_limits.specs.Limits.{IsConfig};
 ghost use Rattle.lpm_rules.specs.RuleMap.{rules_of};
 ghost use Rattle.fib_model.specs.Outcomes.{AreSufficient, AreTooSmall};
@@ -31,6 +31,7 @@ impl Owner {
     ) -> Result<Option<Self>, OpenError>
         ensures opened { IfOk result (λ o. IfSome o (λ owner.
             owner.writer ≡ initial_writer owner.writer.identity config (rules_of rules.now))) }
+        ensures few { IfOk result (λ _. length rules.now ≤ 2 ^ 26) }
         ensures token { IfOk result (λ o. IfSome o (λ owner.
             owner.writer.identity.initial.token ≡ config.first_token)) }
         ensures workers { IfOk result (λ o. IfSome o (λ owner.
