@@ -11,6 +11,7 @@ ghost use Rattle.lpm_rules.specs.Longest.{IsMatch};
 ghost use Rattle.lpm_rules.specs.RuleMap.{IsNextRule};
 ghost use Rattle.lpm_trace.specs.declared.step.WorkerStep.TheVariants.{MeetWriter};
 ghost use Rattle.lpm_trace.specs.Laws.{IsChecked};
+ghost use Rattle.lpm_writer.specs.GroupToFill.{HasWidths};
 ghost use Rattle.lpm_writer.specs.Rest.{blank_state};
 ghost use Rattle.lpm_writer.specs.Steps.{Synchronizes};
 ghost use Rattle.shared_fib.specs.FreedGroups.{TakesLeast, FreesChecked};
@@ -306,11 +307,14 @@ impl Owner {
         self.writer.rules()
     }
 
-    /// Does nothing: its contract says that the table is at rest between two commands.
+    /// Does nothing: its contract says that the table is at rest between two commands, and of which widths
+    /// its traces are.
     #[inline]
     pub fn at_rest(&self)
-        ensures { IsAtRest self.now.writer }
+        ensures rests { IsAtRest self.now.writer }
+        ensures widths { HasWidths 24 8 (initial_state self.now.writer.identity) }
     {
+        self.table.has_widths();
         self.writer.table_rests();
     }
 
