@@ -1,5 +1,5 @@
 -- The rules that cover an address, found length by length, the longest first.
-use Rattle.std.proofs.Common.{◌≡◌, ◌∙◌, ap, sym, subst, refl, ℕ, ◌+◌, ◌<◌, List, [], ◌∷◌, ◌++◌, Option, length, take, get_or, append_assoc, arith, inl, inr, zero, suc, ◌-◌, ◌≤◌, Some, None}
+use Rattle.std.proofs.Common.{◌≡◌, ◌∙◌, ap, sym, subst, refl, ℕ, ◌+◌, ◌*◌, ◌^◌, ◌<◌, List, [], ◌∷◌, ◌++◌, Option, length, take, get_or, append_assoc, arith, inl, inr, zero, suc, ◌-◌, ◌≤◌, Some, None}
 use Rattle.std.proofs.lemmas.List.{take_more, append-nil}
 use Rattle.lpm_limits.specs.declared.config.Config.{Config}
 use Rattle.lpm_cells.specs.Words.{Words}
@@ -10,7 +10,7 @@ use Rattle.lpm_update.specs.Represents.{Represents}
 use Rattle.lpm_writer.specs.declared.control.ControlState.{ControlState}
 use Rattle.qsbr.specs.Counters.{Registry}
 use Rattle.fib_model.specs.State.{State}
-use Rattle.fib.specs.Fib.{IsSound, table_of}
+use Rattle.fib.specs.Fib.{FibState, IsSound, table_of}
 use Rattle.route_text.specs.declared.routes.Route.{Route}
 use Rattle.route_text.specs.Files.{AreRoutes}
 use Rattle.route_text.specs.declared.explanations.Reading.{Reading}
@@ -63,20 +63,26 @@ explained_by R t a rules slice reading old new same covering answered is written
 represented : (control : ControlState 24 8) (memory : PlainMemory 24 8) → IsSound 24 8 control memory → Represents 24 8 control.rules.rules memory.cells
 represented control memory sound = subst (Represents 24 8 control.rules.rules) (sym sound.2.did.words) sound.2.rests.represents
 
+-- a table has the words of as many groups as it was opened with
+sized : (control : ControlState 24 8) (memory : PlainMemory 24 8) → IsSound 24 8 control memory → length memory.cells.seconds ≡ control.config.groups * 2 ^ 8
+sized control memory sound = ap (λ (t : Words). length t.seconds) sound.2.did.words ∙ (sound.2.rests.room.words ∙ ap (λ n. n * 2 ^ 8) sound.2.rests.states)
+
 -- the answers are explained by the rules of the table and by the words that represent them
-pub explains_by : (control : ControlState 24 8) (memory : PlainMemory 24 8) (table : State Registry) (addrs text : List ℕ) → IsSound 24 8 control memory → table_of control memory ≡ table → AreExplanations control.rules.rules memory.cells addrs text → ExplainsBy table.rules addrs text
-explains_by control memory table addrs text sound same told =
-    let explained : ExplainsBy control.rules.rules addrs text = (memory.cells, represented control memory sound, told) in
-    subst (λ (R : RuleMap). ExplainsBy R addrs text) (ap (λ (s : State Registry). s.rules) same) explained
+pub explains_by : (control : ControlState 24 8) (memory : PlainMemory 24 8) (fib : FibState) (addrs text : List ℕ) → IsSound 24 8 control memory → control.config ≡ fib.config → table_of control memory ≡ fib.table → AreExplanations control.rules.rules memory.cells addrs text
+    → ExplainsBy fib.config.groups fib.table.rules addrs text
+explains_by control memory fib addrs text sound limits same told =
+    let explained : ExplainsBy control.config.groups control.rules.rules addrs text = (memory.cells, represented control memory sound, sized control memory sound, told) in
+    subst (λ (c : Config). ExplainsBy c.groups fib.table.rules addrs text) limits
+    (subst (λ (R : RuleMap). ExplainsBy control.config.groups R addrs text) (ap (λ (s : State Registry). s.rules) same) explained)
 
 -- the explanations by the rules of the routes, which make a table
-pub is_explain_text : (c : Config) (routes : Option (List ℕ)) (list : List Route) (addrs : List ℕ) (table : State Registry) (text : List ℕ) → Reads AreRoutes routes list → IsLoaded c list table → ExplainsBy table.rules addrs text → IsExplainText c routes addrs text
-is_explain_text c routes list addrs table text are_routes loaded explained = record {
+pub is_explain_text : (c : Config) (routes : Option (List ℕ)) (list : List Route) (addrs : List ℕ) (fib : FibState) (text : List ℕ) → Reads AreRoutes routes list → fib.config ≡ c → IsLoaded c list fib.table → ExplainsBy fib.config.groups fib.table.rules addrs text → IsExplainText c routes addrs text
+is_explain_text c routes list addrs fib text are_routes limits loaded explained = record {
   list = list;
-  table = table;
+  table = fib.table;
   are_routes = are_routes;
   loaded = loaded;
-  explained = subst (λ (R : RuleMap). ExplainsBy R addrs text) loaded.rules explained;
+  explained = subst (λ (R : RuleMap). ExplainsBy c.groups R addrs text) loaded.rules (subst (λ (k : Config). ExplainsBy k.groups fib.table.rules addrs text) limits explained);
 }
 
 -- the rules that cover the address and are longer than `width - host`: all of them, the longest first

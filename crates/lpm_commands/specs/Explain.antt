@@ -1,6 +1,6 @@
 -- Meaning: the command `explain` (this project's program: the words of the command line are checked
 -- before the file is read).
-use Rattle.std.specs.Prelude.{ℕ, ◌≡◌, ◌+◌, ◌*◌, ◌/◌, ◌%◌, ◌^◌, ◌<◌, List, [], ◌∷◌, slice_index, Option, Some, None, ◌⊎◌, ◌++◌}
+use Rattle.std.specs.Prelude.{ℕ, ◌≡◌, ◌+◌, ◌*◌, ◌/◌, ◌%◌, ◌^◌, ◌<◌, List, [], ◌∷◌, length, slice_index, Option, Some, None, ◌⊎◌, ◌++◌}
 use Rattle.std.specs.List.{All, AllPairs, Contains}
 use Rattle.std.specs.FinMap.{get}
 use Rattle.lpm_bits.specs.Network.{Network, Covers}
@@ -77,10 +77,12 @@ AreExplanations R t [] text = text ≡ []
 AreExplanations R t (a ∷ addrs) text = (here more : List ℕ)
     × IsExplanation R t a here × AreExplanations R t addrs more × (text ≡ here ++ more)
 
--- the words of a table of these rules, and the text that explains the answers to the addresses there
-abbrev pub ExplainsBy : RuleMap → List ℕ → List ℕ → Type 0
-ExplainsBy R addrs text =
-    (words : Words) × Represents 24 8 R words × AreExplanations R words addrs text
+-- the words of a table of these rules with so many groups, and the text that explains the answers to the
+-- addresses there
+abbrev pub ExplainsBy : ℕ → RuleMap → List ℕ → List ℕ → Type 0
+ExplainsBy groups R addrs text =
+    (words : Words) × Represents 24 8 R words × (length words.seconds ≡ groups * 2 ^ 8)
+    × AreExplanations R words addrs text
 
 -- the text explains the answers to the addresses by a table of the routes, none of which is refused;
 -- the file's bytes are known, or not
@@ -89,7 +91,7 @@ pub record IsExplainText (c : Config) (routes : Option (List ℕ)) (addrs text :
   pub table : State Registry
   pub are_routes : Reads AreRoutes routes list
   pub loaded : IsLoaded c list table
-  pub explained : ExplainsBy (rules_of_routes list) addrs text
+  pub explained : ExplainsBy c.groups (rules_of_routes list) addrs text
 
 -- the file that is read, of this path and these bytes
 abbrev pub explain_files : List ℕ → (List ℕ → Option (List ℕ)) → List Input

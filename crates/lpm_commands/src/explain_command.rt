@@ -47,7 +47,8 @@ pub fn explain<'a, F: Files, W: Write>(
 
 // The text that explains the answers of this table, which is gone then.
 fn text_of_table(alloc: Global, table: Fib<24, 8>, addrs: &[u32]) -> Result<Vec<u8>, AllocError>
-    ensures { IfOk result (λ v. ExplainsBy table.table.rules addrs.now v.items) }
+    ensures { IfOk result (λ v.
+        ExplainsBy table.config.groups table.table.rules addrs.now v.items) }
 {
     let (control, memory) = table.into_parts();
     explanations(alloc, &control.rules, &memory.cells, addrs)
