@@ -30,16 +30,20 @@ pub record IsFirstBad (routes : List SaxikoRoute) (place : ℕ) : Type 0 where
   pub bad : IsSomeAnd (slice_get routes place) IsBadRoute
   pub before : All (λ route. ¬ IsBadRoute route) (take place routes)
 
+-- the most routes that can be sorted
+abbrev pub most_routes : ℕ
+most_routes = 2 ^ 26
+
 -- they can be read: they are no more than can be sorted, and each gives a rule
 pub record AreReadable (routes : List SaxikoRoute) : Type 0 where
-  pub few : length routes ≤ 2 ^ 26
+  pub few : length routes ≤ most_routes
   pub good : All (λ route. ¬ IsBadRoute route) routes
 
 -- the routes were not read: E2BIG, and else EDOM and the place of the first that gives no rule, or ENOMEM
 abbrev pub IsUnread : List SaxikoRoute → ℕ → ℕ → ℤ → Type 0
 IsUnread routes before after status =
-    ((status ≡ too_big) × (2 ^ 26 < length routes) × (after ≡ before))
-    ⊎ ((length routes ≤ 2 ^ 26) × (((status ≡ out_of_domain) × IsFirstBad routes after)
+    ((status ≡ too_big) × (most_routes < length routes) × (after ≡ before))
+    ⊎ ((length routes ≤ most_routes) × (((status ≡ out_of_domain) × IsFirstBad routes after)
     ⊎ ((status ≡ no_memory) × (after ≡ before))))
 
 -- no table was opened: as IsUnread says, or else EINVAL, and else ENOSPC

@@ -18,7 +18,7 @@ use Rattle.lpm_trace.specs.declared.step.WorkerStep.{WorkerStep}
 use Rattle.lpm_trace.specs.declared.step.WorkerStep.TheVariants.{LoadOnline, StoreOnline, LoadQuiescent, StoreQuiescent, StoreOffline}
 use Rattle.lpm_writer.specs.Rest.{blank_state}
 use Rattle.shared_fib.specs.FreedGroups.{TakesLeast, FreesChecked}
-use Rattle.shared_fib.specs.Bursts.{LooksUpBurst}
+use Rattle.shared_fib.specs.Bursts.{LooksUpBurst, greatest, least}
 use Rattle.shared_words.specs.Rule.{IsLater}
 use Rattle.saxiko_c.specs.Status.{OpensIt, success, no_memory, busy, invalid, not_permitted, already, add_status, status_of}
 use Rattle.saxiko_c.specs.Table.{IsBad, IsCounted, IsUnopened, Stores, Tells}
@@ -219,11 +219,11 @@ FindsAllIn default addrs before after =
     let unchanged : Type 0 = after ≡ before in
     Online (Fits addrs before find unchanged) unchanged
 
--- the same, and the span is stored: that of no addresses is from 2^64 - 1 to 0
+-- the same, and the span is stored, also that of no addresses
 abbrev pub FindsAllWithin : ℕ → List ℕ → List ℕ → List ℕ → SaxikoSpan → SaxikoSpan → PassState → ℤ
     → PassState → Type 0
 FindsAllWithin default addrs before after old span =
     let unchanged : Type 0 = (after ≡ before) × (span ≡ old) in
     let find : PassState → PassState → Type 0 = λ p q.
-    FindsEach default addrs after span p q × (addrs ≡ [] → span ≡ record { lo = 2 ^ 64 - 1; hi = 0 }) in
+    FindsEach default addrs after span p q × (addrs ≡ [] → span ≡ record { lo = least []; hi = greatest [] }) in
     Online (Fits addrs before find unchanged) unchanged

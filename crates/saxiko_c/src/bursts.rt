@@ -1,6 +1,7 @@
 //! Lookups of many addresses by a reader.
 
-ghost use Rattle.std.specs.Prelude.{◌≡◌, ◌+◌, ◌-◌, ◌^◌, ◌<◌, ◌++◌, [], ℕ, List, Option, length, map, take, true};
+ghost use Rattle.std.specs.Prelude.{◌≡◌, ◌+◌, ◌<◌, ◌++◌, [], ℕ, List, Option, length, map, take, true};
+ghost use Rattle.shared_fib.specs.Bursts.{greatest, least};
 ghost use Rattle.shared_fib.specs.Passes.{LooksUpAll};
 ghost use Rattle.shared_fib.specs.RunningTable.{hop_or};
 ghost use Rattle.saxiko_c.specs.RunningTable.{FindsEach};
@@ -60,7 +61,7 @@ pub(crate) fn find_all_within(
     requires sizes { length addrs.now ≡ length hops.old }
     ensures online { reader.new.online ≡ true }
     ensures found { FindsEach default addrs.now hops.new span.new reader.old reader.new }
-    ensures none { addrs.now ≡ [] → span.new ≡ record { lo = 2 ^ 64 - 1; hi = 0 } }
+    ensures none { addrs.now ≡ [] → span.new ≡ record { lo = least []; hi = greatest [] } }
 {
     let mut at = 0;
     let mut lo = u64::MAX;

@@ -1,5 +1,6 @@
-use Rattle.std.proofs.Common.{◌≡◌, ◌≤◌, ◌+◌, ◌-◌, ◌^◌, ℕ, [], ap, length, refl, arith, rules, ◌∙◌}
+use Rattle.std.proofs.Common.{◌≡◌, ◌≤◌, ◌+◌, ℕ, [], ap, length, refl, arith, rules, ◌∙◌}
 use Rattle.std.specs.Prelude.{min, max}
+use Rattle.shared_fib.specs.Bursts.{least}
 use Rattle.shared_fib.proofs.Lookups.{burst_after}
 use Rattle.saxiko_c.specs.declared.records.SaxikoSpan.{SaxikoSpan as Span}
 use Rattle.saxiko_c.proofs.Pieces.{all_found}
@@ -45,4 +46,4 @@ returns-clause-none c = λ none.
     let at : l.at ≡ 0 = omega (arith, l.invariant.bound, sizes, same, ap length none) in
     let blank = l.invariant.none at in
     let span : ℕ → ℕ → Span = λ x y. record { lo = x; hi = y } in
-    ap (λ x. span x l.hi) blank.0 ∙ ap (λ y. span (2 ^ 64 - 1) y) blank.1
+    ap (λ x. span x l.hi) blank.0 ∙ ap (λ y. span (least []) y) blank.1

@@ -1,4 +1,5 @@
-use Rattle.std.proofs.Common.{length, ◌-◌, ◌^◌, ◌≡◌, ◌≤◌, take, true}
+use Rattle.std.proofs.Common.{length, ◌-◌, ◌≡◌, ◌≤◌, [], take, true}
+use Rattle.shared_fib.specs.Bursts.{greatest, least}
 use Rattle.saxiko_c.specs.RunningTable.{FindsEach}
 use Rattle.saxiko_c.proofs.bursts.find_all_within.Given as goal
 
@@ -8,7 +9,7 @@ invariant-loop-at l = record {
   bound : l.at ≤ length l.hops;
   sizes : length l.hops ≡ length l.fn.hops;
   online : l.reader.online ≡ true;
-  none : l.at ≡ 0 → (l.lo ≡ 2 ^ 64 - 1) × (l.hi ≡ 0);
+  none : l.at ≡ 0 → (l.lo ≡ least []) × (l.hi ≡ greatest []);
   found : FindsEach l.default (take l.at l.addrs) (take l.at l.hops) (record { lo = l.lo; hi = l.hi }) l.fn.reader l.reader;
 }
 
