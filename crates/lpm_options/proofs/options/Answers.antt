@@ -1,6 +1,7 @@
 use Rattle.std.proofs.Common.{◌≡◌, ◌∙◌, sym, ap, refl, true, subst, map, [], Option, List}
-use Rattle.std.specs.Prelude.{IfOk, IfErr, Result, Ok, Err}
+use Rattle.std.specs.Prelude.{IfOk, IfErr}
 use Rattle.std.specs.Fmt.{digits}
+use Rattle.std.proofs.lemmas.Result.{IfOk-weaker}
 use Rattle.clap.specs.Words.{App, Row, Text, Kinds, HasKind, is_simple, is_simple_and_free}
 use Rattle.clap.specs.Words.{subcommand_of, fault_of}
 use Rattle.clap.proofs.OnLiterals.{clap_on_literals}
@@ -23,11 +24,6 @@ same_ask a b words e = ap (λ (x : App). subcommand_of x words) e
 same_faults : (a b : App) (words : List Text) → a ≡ b → fault_of a words ≡ fault_of b words
 same_faults a b words e = ap (λ (x : App). fault_of x words) e
 
--- what holds anyway holds of a success
-in_each : {A E P : Type 0} (r : Result A E) → P → IfOk r (λ _. P)
-in_each (Ok x) p = p
-in_each (Err e) p = tt
-
 pub returns-in-Ok-try_get_matches_from-clause-asked : goal.returns-in-Ok-try_get_matches_from-clause-asked
 returns-in-Ok-try_get_matches_from-clause-asked g c =
     let app = c.in-Ok.ensures in
@@ -40,7 +36,7 @@ returns-in-Ok-try_get_matches_from-clause-accepted g c =
     let app = c.in-Ok.ensures in
     let words = map g.S.AsStr.text c.args.words.now in
     let kinds = c.in-Ok-try_get_matches_from.ensures.kinds (ap is_simple_and_free app ∙ simple_and_free) in
-    in_each c.line_of.result (sym (same_faults _ _ words app) ∙ kinds)
+    IfOk-weaker c.line_of.result _ _ (λ _ _. sym (same_faults _ _ words app) ∙ kinds) c.line_of.ensures.in_range
 
 pub returns-in-Ok-try_get_matches_from-clause-refused : goal.returns-in-Ok-try_get_matches_from-clause-refused
 returns-in-Ok-try_get_matches_from-clause-refused g c =

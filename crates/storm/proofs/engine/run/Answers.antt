@@ -1,5 +1,6 @@
 use Rattle.std.proofs.Common.{arith, lit<, ℕ, ◌≡◌, ◌+◌, ap, subst, sym, true, All, Bool, List, length}
-use Rattle.std.specs.Prelude.{cond, IfOk, Result, Ok, Err}
+use Rattle.std.specs.Prelude.{cond}
+use Rattle.std.proofs.lemmas.Result.{IfOk-weaker}
 use Rattle.lpm_limits.specs.declared.config.Config.{Config}
 use Rattle.storm.specs.declared.workers.Worker.{Worker}
 use Rattle.storm.specs.Workers.{AreInSeats, IsOver}
@@ -52,9 +53,5 @@ returns-clause-seated g c =
     let waits : plan.has_stuck_worker ≡ true → IsAtBench c.seat_all.new.bench plan.config.workers = λ stuck.
     let one : ◌≡◌ {A = ℕ} (cond plan.has_stuck_worker 1 0) 1 = ap (λ (b : Bool). cond b 1 0) stuck in
     c.in_ok-workers.ensures.others plan.config.workers (omega arith) (omega (arith, seats, one)) in
-    in_each c.finish.result (all_seated _ _ plan.config.workers plan.has_stuck_worker waits
-    c.seat_stuck-stuck.ensures.seated c.seat_stuck-stuck.ensures.same c.in_ok-workers.ensures.seated)
-  where
-    in_each : {A E P : Type 0} (r : Result A E) → P → IfOk r (λ _. P)
-    in_each (Ok x) p = p
-    in_each (Err e) p = tt
+    IfOk-weaker c.finish.result _ _ (λ _ _. all_seated _ _ plan.config.workers plan.has_stuck_worker waits
+    c.seat_stuck-stuck.ensures.seated c.seat_stuck-stuck.ensures.same c.in_ok-workers.ensures.seated) c.finish.ensures.limbo
