@@ -45,7 +45,7 @@ use Rattle.lpm_writer.proofs.NextStores.{none_some}
 use Rattle.lpm_writer.proofs.StepsAlone.{StoresNothing}
 use Rattle.lpm_writer.proofs.Rests.{linked_resting, none_fills, some_fills}
 
-abbrev Ok' : Put → Result Put RuleFault
+abbrev pub Ok' : Put → Result Put RuleFault
 Ok' put = Ok put
 
 some_none : (x : Option ℕ) (P : ℕ → Type 0) → IsSomeAnd x P → x ≡ None → ⊥

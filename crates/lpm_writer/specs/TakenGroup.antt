@@ -12,7 +12,7 @@ use Rattle.lpm_trace.specs.States.{InitialState, state_after, IsUpdating}
 use Rattle.lpm_writer.specs.declared.pool.GroupPool.{GroupPool}
 use Rattle.lpm_writer.specs.Limbo.{IsTaken, tokens_of}
 use Rattle.lpm_writer.specs.GroupsMatch.{HasNothingDue, GroupsMatchSteps, OnlyChecks}
-use Rattle.lpm_writer.specs.MemorySteps.{WithSteps}
+use Rattle.lpm_writer.specs.MemorySteps.{WithSteps, by_writer}
 
 -- no update runs, and nothing is due
 pub record MayTake (c : InitialState) (steps : List WriterStep) (pool : GroupPool) : Type 0 where
@@ -71,6 +71,13 @@ Finds t first second firsts p x old (Ok (Some group)) z new = NeedsGroup first s
     × IsTaken old.groups group (p.bits / 2 ^ second) new.groups × Takes t x old (Ok group) z new
 Finds t first second firsts p x old (Err oldest) z new =
     NeedsGroup first second firsts p × Takes t x old (Err oldest) z new
+
+-- what was found, whatever steps may have led to the memory m: checks alone were made up to z
+pub record FindsAt {M : Type 0} (did : M → InitialState → List WriterStep → Type 0)
+    (does : M → WriterStep → M → Type 0) (first second : ℕ) (firsts : List ℕ) (p : Network) (m : M)
+    (old : GroupPool) (result : Result (Option ℕ) (Option Busy)) (z : M) (new : GroupPool) : Type 0 where
+  pub after : TakesAt did m old z new (found_by result)
+      (λ c x y. Finds (by_writer does c) first second firsts p x old result y new)
 
 -- ---- the least free group
 

@@ -4,8 +4,7 @@ ghost use Rattle.std.specs.Prelude.{◌≡◌, ◌/◌, ◌^◌, ◌↔◌, OnEr
 ghost use Rattle.lpm_cells.specs.Words.{IsWords};
 ghost use Rattle.lpm_update.specs.BlockGroups.{group_at};
 ghost use Rattle.lpm_writer.specs.Limbo.{IsQueued};
-ghost use Rattle.lpm_writer.specs.MemorySteps.{by_writer};
-ghost use Rattle.lpm_writer.specs.TakenGroup.{LinksLeast, MayTakeAt, TakesAt, Finds, found_by};
+ghost use Rattle.lpm_writer.specs.TakenGroup.{LinksLeast, MayTakeAt, FindsAt};
 
 use super::GroupPool;
 use super::limbo::take;
@@ -43,9 +42,8 @@ pub(crate) fn group_for<const FIRST: u32, const SECOND: u32, M: Memory>(
         ↔ IsSome (group_at (M.words memory.old).firsts (prefix.now.bits / 2 ^ SECOND)) }
     requires queued { IsQueued pool.old.groups pool.old.queue }
     requires rests { MayTakeAt M.did memory.old pool.old }
-    ensures finds { TakesAt M.did memory.old pool.old memory.new pool.new (found_by result)
-        (λ c x z. Finds (by_writer M.does c) FIRST SECOND (M.words memory.old).firsts prefix.now
-        x pool.old result z pool.new) }
+    ensures finds { FindsAt M.did M.does FIRST SECOND (M.words memory.old).firsts prefix.now
+        memory.old pool.old result memory.new pool.new }
     ensures least { LinksLeast pool.old.groups pool.new.groups }
     ensures unchanged { OnErr result ((pool.new.groups ≡ pool.old.groups)
         × (pool.new.queue ≡ pool.old.queue)) }
@@ -56,5 +54,5 @@ pub(crate) fn group_for<const FIRST: u32, const SECOND: u32, M: Memory>(
         return Ok(None);
     }
     let block = Shape::<FIRST, SECOND>::first_index(bits);
-    Ok(Some(take(pool, memory, block)?))
+    take(pool, memory, block).map(Some)
 }

@@ -1,11 +1,14 @@
 use Rattle.std.proofs.Common.{arith, ◌≡◌, ◌<◌, ◌≤◌, ◌⊎◌, ◌∷◌, inl, inr, refl, sym, subst, ◌∙◌}
 use Rattle.std.proofs.lemmas.Bool.{cases_lt}
 use Rattle.lpm_trace.specs.declared.step.WriterStep.TheVariants.{LoadCounter}
-use Rattle.std.specs.Prelude.{Err}
+use Rattle.std.specs.Prelude.{Err, Ok}
 use Rattle.lpm_limits.specs.declared.busy.Busy.{Busy}
 use Rattle.lpm_writer.specs.TokenCheck.{Loads, LoadsUntilStopped}
 use Rattle.lpm_writer.specs.MemorySteps.{Goes}
 use Rattle.lpm_writer.proofs.Checks.{counters_loaded_none, counters_loaded_more, passed_where_all_pass, passed_where_one_stops, passes_by}
+use Rattle.lpm_writer.specs.Commands.{ChecksBy}
+use Rattle.lpm_writer.proofs.grace.check_token.Given.{Over}
+use Rattle.lpm_writer.proofs.grace.check_token.Goals.{After-loop-worker}
 use Rattle.lpm_writer.proofs.grace.check_token.Goals as goal
 
 pub loop-worker-init : goal.loop-worker-init
@@ -61,8 +64,12 @@ loop-worker-preserved g c =
           (λ s steps did. let old = (g.met.M.Memory.shows c.args.memory.now s steps did).2 in omega (arith, c.loop-worker-test.true, c.counter_count-worker-end.ensures, old));
     }
 
-pub returns-clause-checks : goal.returns-clause-checks
-returns-clause-checks g c = λ s steps did known may.
+-- what the contract says where every counter has passed
+abbrev HasPassed : (g : Over) → After-loop-worker g → Type 0
+HasPassed g c = ChecksBy g.M.Memory.did g.M.Memory.does c.args.memory.now c.args.passed.now c.args.token (Ok tt) c.loop-worker.memory c.args.token
+
+passed : (g : Over) (c : After-loop-worker g) → HasPassed g c
+passed g c = λ s steps did known may.
     let more : c.args.passed.now < c.args.token = omega arith in
     let so_far = c.loop-worker.invariant.loaded s steps did (may more) in
     let old = (g.met.M.Memory.shows c.args.memory.now s steps did).2 in
@@ -73,3 +80,10 @@ returns-clause-checks g c = λ s steps did known may.
       inr ((λ some. let k = known some in omega (arith, k, more)), loads),
       λ some. passed_where_all_pass g.M.Memory.does s (c.args.memory.now, steps) c.args.token (c.loop-worker.memory, so_far.0) (let k = known some in omega (arith, k, more)) loads some,
     )
+
+-- the return's goal has the first name where it ends the function, and the second where it ends an arm of an `if`
+pub returns-clause-checks : (g : Over) (c : After-loop-worker g) → HasPassed g c
+returns-clause-checks = passed
+
+pub returns-after-loop-worker-clause-checks : (g : Over) (c : After-loop-worker g) → HasPassed g c
+returns-after-loop-worker-clause-checks = passed

@@ -1,5 +1,7 @@
-use Rattle.std.proofs.Common.{rules, ◌≡◌, sym, subst, [], ◌++◌, None}
-use Rattle.std.specs.Prelude.{Ok, IfOk, OnErr}
+use Rattle.std.proofs.Common.{rules, ℕ, ◌≡◌, sym, subst, List, [], ◌++◌, Option, None}
+use Rattle.lpm_groups.specs.declared.GroupState.{GroupState}
+use Rattle.std.specs.Prelude.{Ok, IfNone, IfOk, OnErr}
+use Rattle.std.specs.Option.{ok_or}
 use Rattle.lpm_groups.specs.States.{free_count}
 use Rattle.lpm_writer.specs.GroupsMatch.{GroupsMatchSteps}
 use Rattle.lpm_writer.specs.TakenGroup.{LinksLeast, Takes, TakesAt, taken_by}
@@ -66,58 +68,64 @@ oldest g c =
     })
 
 -- then the least that was free by then was taken, or none was
-took : (g : Over) (c : After-ok_or g) → HasTakenLeast c.free_waiting-reclaimed.new.pool.groups c.args.block c.take_least-found.result c.take_least-found.new.self
-took g c = let e = c.take_least-found.ensures in record { least = e.least; linked = e.linked; none = e.none; unchanged = e.unchanged }
+abbrev pub found_at : (g : Over) (c : After-ok_or g) → (found : Option ℕ) × (c.ok_or.result ≡ ok_or found c.free_waiting-reclaimed.result.stopped)
+found_at g c = search
+
+abbrev pub states_at : (g : Over) (c : After-ok_or g) → (states : List GroupState) × IfNone (found_at g c).0 (states ≡ c.free_waiting-reclaimed.new.pool.groups)
+states_at g c = search
+
+took : (g : Over) (c : After-ok_or g) → HasTakenLeast c.free_waiting-reclaimed.new.pool.groups c.args.block (found_at g c).0 (states_at g c).0
+took g c = record { least = search; linked = search; none = search rules; unchanged = (states_at g c).1 }
 
 -- what the contract says of it, clause by clause
 abbrev TakesOldest : (g : Over) → After-ok_or g → Type 0
 TakesOldest g c =
     let r = c.free_waiting-reclaimed in
-    let y = record r.new.pool { groups = c.take_least-found.new.self } in
+    let y = record r.new.pool { groups = (states_at g c).0 } in
     TakesAt g.M.Memory.did c.args.memory.now c.args.pool.now r.new.memory y (taken_by c.ok_or.result) (λ s a z. Takes (by_writer g.M.Memory.does s) a c.args.pool.now c.ok_or.result z y)
 
 takes : (g : Over) (c : After-ok_or g) → TakesOldest g c
 takes g c =
     let x = c.args.pool.now in
     let r = c.free_waiting-reclaimed in
-    let y = record r.new.pool { groups = c.take_least-found.new.self } in
+    let y = record r.new.pool { groups = (states_at g c).0 } in
     let at : After-free_waiting-reclaimed g = search in
-    subst (λ found. TakesAt g.M.Memory.did c.args.memory.now x r.new.memory y (taken_by found) (λ s a z. Takes (by_writer g.M.Memory.does s) a x found z y)) (sym c.ok_or.ensures.value)
-    (takes_oldest g.M.Memory.did g.M.Memory.does c.args.memory.now x r.new.memory r.new.pool r.result.freed r.result.stopped (oldest g at) c.args.block c.take_least-found.new.self c.take_least-found.result (took g c))
+    subst (λ found. TakesAt g.M.Memory.did c.args.memory.now x r.new.memory y (taken_by found) (λ s a z. Takes (by_writer g.M.Memory.does s) a x found z y)) (sym (found_at g c).1)
+    (takes_oldest g.M.Memory.did g.M.Memory.does c.args.memory.now x r.new.memory r.new.pool r.result.freed r.result.stopped (oldest g at) c.args.block (states_at g c).0 (found_at g c).0 (took g c))
 
 abbrev LinksOldest : (g : Over) → After-ok_or g → Type 0
-LinksOldest g c = IfOk c.ok_or.result (λ n. IsTaken c.args.pool.now.groups n c.args.block c.take_least-found.new.self)
+LinksOldest g c = IfOk c.ok_or.result (λ n. IsTaken c.args.pool.now.groups n c.args.block (states_at g c).0)
 
 links : (g : Over) (c : After-ok_or g) → LinksOldest g c
 links g c =
     let x = c.args.pool.now in
     let r = c.free_waiting-reclaimed in
     let at : After-free_waiting-reclaimed g = search in
-    subst (λ found. IfOk found (λ n. IsTaken x.groups n c.args.block c.take_least-found.new.self)) (sym c.ok_or.ensures.value)
-    (oldest_linked g.M.Memory.did g.M.Memory.does c.args.memory.now x r.new.memory r.new.pool r.result.freed r.result.stopped (oldest g at) c.args.block c.take_least-found.new.self c.take_least-found.result (took g c))
+    subst (λ found. IfOk found (λ n. IsTaken x.groups n c.args.block (states_at g c).0)) (sym (found_at g c).1)
+    (oldest_linked g.M.Memory.did g.M.Memory.does c.args.memory.now x r.new.memory r.new.pool r.result.freed r.result.stopped (oldest g at) c.args.block (states_at g c).0 (found_at g c).0 (took g c))
 
-least : (g : Over) (c : After-ok_or g) → LinksLeast c.args.pool.now.groups c.take_least-found.new.self
+least : (g : Over) (c : After-ok_or g) → LinksLeast c.args.pool.now.groups (states_at g c).0
 least g c =
     let r = c.free_waiting-reclaimed in
     let at : After-free_waiting-reclaimed g = search in
-    oldest_least g.M.Memory.did g.M.Memory.does c.args.memory.now c.args.pool.now r.new.memory r.new.pool r.result.freed r.result.stopped (oldest g at) c.args.block c.take_least-found.new.self c.take_least-found.result (took g c)
+    oldest_least g.M.Memory.did g.M.Memory.does c.args.memory.now c.args.pool.now r.new.memory r.new.pool r.result.freed r.result.stopped (oldest g at) c.args.block (states_at g c).0 (found_at g c).0 (took g c)
 
 abbrev StaysWhole : (g : Over) → After-ok_or g → Type 0
-StaysWhole g c = OnErr c.ok_or.result ((c.take_least-found.new.self ≡ c.args.pool.now.groups) × (c.free_waiting-reclaimed.new.pool.queue ≡ c.args.pool.now.queue))
+StaysWhole g c = OnErr c.ok_or.result (((states_at g c).0 ≡ c.args.pool.now.groups) × (c.free_waiting-reclaimed.new.pool.queue ≡ c.args.pool.now.queue))
 
 stays : (g : Over) (c : After-ok_or g) → StaysWhole g c
 stays g c =
     let x = c.args.pool.now in
     let r = c.free_waiting-reclaimed in
     let at : After-free_waiting-reclaimed g = search in
-    subst (λ found. OnErr found ((c.take_least-found.new.self ≡ x.groups) × (r.new.pool.queue ≡ x.queue))) (sym c.ok_or.ensures.value)
-    (oldest_unchanged g.M.Memory.did g.M.Memory.does c.args.memory.now x r.new.memory r.new.pool r.result.freed r.result.stopped (oldest g at) c.args.block c.take_least-found.new.self c.take_least-found.result (took g c))
+    subst (λ found. OnErr found (((states_at g c).0 ≡ x.groups) × (r.new.pool.queue ≡ x.queue))) (sym (found_at g c).1)
+    (oldest_unchanged g.M.Memory.did g.M.Memory.does c.args.memory.now x r.new.memory r.new.pool r.result.freed r.result.stopped (oldest g at) c.args.block (states_at g c).0 (found_at g c).0 (took g c))
 
-queued : (g : Over) (c : After-ok_or g) → IsQueued c.take_least-found.new.self c.free_waiting-reclaimed.new.pool.queue
+queued : (g : Over) (c : After-ok_or g) → IsQueued (states_at g c).0 c.free_waiting-reclaimed.new.pool.queue
 queued g c =
     let r = c.free_waiting-reclaimed in
     let at : After-free_waiting-reclaimed g = search in
-    oldest_queued g.M.Memory.did g.M.Memory.does c.args.memory.now c.args.pool.now r.new.memory r.new.pool r.result.freed r.result.stopped (oldest g at) c.args.block c.take_least-found.new.self c.take_least-found.result (took g c) c.requires.rests c.requires.queued
+    oldest_queued g.M.Memory.did g.M.Memory.does c.args.memory.now c.args.pool.now r.new.memory r.new.pool r.result.freed r.result.stopped (oldest g at) c.args.block (states_at g c).0 (found_at g c).0 (took g c) c.requires.rests c.requires.queued
 
 -- The return's goals have the first name where the first `take_least` is tested by an `if let` that returns, the
 -- second where it is by a `match`, and the third where the `if let` has an `else`.
@@ -140,13 +148,13 @@ returns-in-None-clause-linked = links
 pub returns-in_default-clause-linked : (g : Over) (c : After-ok_or g) → LinksOldest g c
 returns-in_default-clause-linked = links
 
-pub returns-clause-least : (g : Over) (c : After-ok_or g) → LinksLeast c.args.pool.now.groups c.take_least-found.new.self
+pub returns-clause-least : (g : Over) (c : After-ok_or g) → LinksLeast c.args.pool.now.groups (states_at g c).0
 returns-clause-least = least
 
-pub returns-in-None-clause-least : (g : Over) (c : After-ok_or g) → LinksLeast c.args.pool.now.groups c.take_least-found.new.self
+pub returns-in-None-clause-least : (g : Over) (c : After-ok_or g) → LinksLeast c.args.pool.now.groups (states_at g c).0
 returns-in-None-clause-least = least
 
-pub returns-in_default-clause-least : (g : Over) (c : After-ok_or g) → LinksLeast c.args.pool.now.groups c.take_least-found.new.self
+pub returns-in_default-clause-least : (g : Over) (c : After-ok_or g) → LinksLeast c.args.pool.now.groups (states_at g c).0
 returns-in_default-clause-least = least
 
 pub returns-clause-unchanged : (g : Over) (c : After-ok_or g) → StaysWhole g c
@@ -158,11 +166,11 @@ returns-in-None-clause-unchanged = stays
 pub returns-in_default-clause-unchanged : (g : Over) (c : After-ok_or g) → StaysWhole g c
 returns-in_default-clause-unchanged = stays
 
-pub returns-clause-queued : (g : Over) (c : After-ok_or g) → IsQueued c.take_least-found.new.self c.free_waiting-reclaimed.new.pool.queue
+pub returns-clause-queued : (g : Over) (c : After-ok_or g) → IsQueued (states_at g c).0 c.free_waiting-reclaimed.new.pool.queue
 returns-clause-queued = queued
 
-pub returns-in-None-clause-queued : (g : Over) (c : After-ok_or g) → IsQueued c.take_least-found.new.self c.free_waiting-reclaimed.new.pool.queue
+pub returns-in-None-clause-queued : (g : Over) (c : After-ok_or g) → IsQueued (states_at g c).0 c.free_waiting-reclaimed.new.pool.queue
 returns-in-None-clause-queued = queued
 
-pub returns-in_default-clause-queued : (g : Over) (c : After-ok_or g) → IsQueued c.take_least-found.new.self c.free_waiting-reclaimed.new.pool.queue
+pub returns-in_default-clause-queued : (g : Over) (c : After-ok_or g) → IsQueued (states_at g c).0 c.free_waiting-reclaimed.new.pool.queue
 returns-in_default-clause-queued = queued
