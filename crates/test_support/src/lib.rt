@@ -9,13 +9,14 @@ pub mod plans;
 mod routes;
 mod rule_edits;
 mod rule_lists;
+pub mod words;
 
 pub use edits::Edit;
 pub use many::{MANY, MANY_LIMITS, block, many_plain, many_rules, second_half};
 pub use meeting::Meeting;
 pub use routes::{
-    AMPLE, Change, DEEP, DEFAULT_HOP, FOUR, FOUR_HOPS, FOUR_NUMBERS, HOPS, LIMITS, Opening, ROUTES,
-    Row, SHORT, STEPS, Step, THREE, USUAL, bad_limits, limits, openings,
+    ADDED, AMPLE, Change, DEEP, DEFAULT_HOP, FOUR, FOUR_HOPS, FOUR_NUMBERS, HOPS, LIMITS, Opening,
+    ROUTES, Row, SHORT, STEPS, Step, THREE, USUAL, bad_limits, limits, openings,
 };
 pub use rule_edits::{COLLAPSE, COVER, DEFAULT_UNDER_A_GROUP, FILLED, RuleEdit, UNDER_A_GROUP};
 pub use rule_lists::{

@@ -81,7 +81,8 @@ pub enum Change {
     Delete,
 }
 
-pub(crate) const ADDED: Change = Change::Add(Put::Added);
+/// A rule is put in that is new.
+pub const ADDED: Change = Change::Add(Put::Added);
 
 /// A change, its rule, and three addresses with their next hops after it.
 pub type Step = (Change, Plain, &'static [Row]);

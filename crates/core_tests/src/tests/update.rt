@@ -12,6 +12,7 @@ use lpm_update::{Did, Update};
 use std::alloc::{AllocError, Global};
 use std::marker::Model;
 use std::process::Abort;
+use test_support::words::{FIVE, GROUP, SEVEN};
 use test_support::{
     COLLAPSE, COVER, Change, DEFAULT_UNDER_A_GROUP, FILLED, RuleEdit, UNDER_A_GROUP,
 };
@@ -250,18 +251,12 @@ struct Case {
 
 const LINK: &[Stores] = &[Stores::Seconds(0, 16), Stores::Firsts(1, 2)];
 
-// The words of a hop 5 of length 8, 6 of length 6, 7 and 3 of length 4 and 9 of length 0, and of group 0.
-const FIVE: u64 = 0x2100_0005;
-
+// The words of a hop 6 of length 6, 3 of length 4 and 9 of length 0.
 const SIX: u64 = 0x1900_0006;
-
-const SEVEN: u64 = 0x1100_0007;
 
 const THREE: u64 = 0x1100_0003;
 
 const NINE: u64 = 0x0100_0009;
-
-const GROUP: u64 = 0x0300_0000;
 
 // A change that stores nothing.
 const BARE: Stage = Stage {

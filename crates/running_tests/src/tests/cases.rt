@@ -4,7 +4,7 @@ ghost use Rattle.shared_fib.specs.Passes.{IsBenchOf};
 
 use super::asserts::assert_at;
 use super::changes::{
-    ADDED, Ipv4Table, Ipv4Writer, SMALL, SmallTable, SmallWriter, change, figures, groups,
+    Ipv4Table, Ipv4Writer, SMALL, SmallTable, SmallWriter, change, figures, groups,
 };
 use defer_queue::Reclaimed;
 use fib::Fib;
@@ -17,7 +17,9 @@ use std::alloc::Global;
 use std::process::Abort;
 use std::sync::Wait;
 use std::test::Fail;
-use test_support::{Change, DEFAULT_HOP, FOUR, FOUR_HOPS, Plain, THREE, hop_number, rule_of};
+use test_support::{
+    ADDED, Change, DEFAULT_HOP, FOUR, FOUR_HOPS, Plain, THREE, hop_number, rule_of,
+};
 
 // A pass that has met the writer answers by the rule that was added before. Each case is played by a
 // function that is lent its table: what a function owns makes its proof longer at each early end.

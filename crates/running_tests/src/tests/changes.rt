@@ -5,7 +5,7 @@ ghost use Rattle.lpm_bits.specs.Widths.{IsShape};
 use super::asserts::assert_at;
 use lpm_groups::Counts;
 use lpm_limits::Config;
-use lpm_rules::{Put, Rule};
+use lpm_rules::Rule;
 use shared_fib::{SharedTable, Writer};
 use std::process::Abort;
 use test_support::{Change, Plain, USUAL, rule_of};
@@ -24,8 +24,6 @@ pub(crate) const SMALL: Config = Config {
     groups: 1,
     ..USUAL
 };
-
-pub(crate) const ADDED: Change = Change::Add(Put::Added);
 
 /// Makes the change, and the rule's answer is the one that the change names.
 pub(crate) fn change<const FIRST: u32, const SECOND: u32>(

@@ -3,14 +3,15 @@
 ghost use Rattle.std.specs.Prelude.{◌≡◌, ◌<◌, true, false};
 
 use super::asserts::assert_at;
-use super::changes::{ADDED, Figures, SMALL, SmallTable, SmallWriter, change, figures, groups};
+use super::changes::{Figures, SMALL, SmallTable, SmallWriter, change, figures, groups};
 use fib::Fib;
 use lpm_rules::Rule;
 use shared_fib::{Pass, open};
 use std::alloc::Global;
 use std::process::Abort;
 use test_support::{
-    COLLAPSE, Change, DEFAULT_UNDER_A_GROUP, Plain, RuleEdit, UNDER_A_GROUP, hop_number, rule_of,
+    ADDED, COLLAPSE, Change, DEFAULT_UNDER_A_GROUP, Plain, RuleEdit, UNDER_A_GROUP, hop_number,
+    rule_of,
 };
 
 // The first and the last of some addresses, and the number of the next hop of each.

@@ -3,12 +3,12 @@
 ghost use Rattle.std.specs.Prelude.{◌≡◌, ◌<◌, false, true};
 
 use super::asserts::assert_at;
-use super::changes::{ADDED, Ipv4Table, Ipv4Writer, change, figures};
+use super::changes::{Ipv4Table, Ipv4Writer, change, figures};
 use shared_fib::{Pass, open, open_sorted};
 use std::process::Abort;
 use std::test::Fail;
 use test_support::{
-    MANY, MANY_LIMITS, are_in_order, block, hop_number, many_plain, many_rules, second_half,
+    ADDED, MANY, MANY_LIMITS, are_in_order, block, hop_number, many_plain, many_rules, second_half,
 };
 
 fn add_all(rt: &impl Abort, table: &Ipv4Table, writer: &mut Ipv4Writer)

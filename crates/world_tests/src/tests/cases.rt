@@ -14,16 +14,11 @@ use std::alloc::Global;
 use std::process::Abort;
 use std::test::Fail;
 use test_support::Edit;
+use test_support::words::{FIVE, GROUP, SEVEN};
 use world_reference::{InitialState, version_at};
 
-// The words of hop 7 with depth 4, of hop 5 with depth 8, of hop 6 with depth 8, and of group 0.
-const SEVEN: u64 = 0x1100_0007;
-
-const FIVE: u64 = 0x2100_0005;
-
+// The word of hop 6 with length 8.
 const SIX: u64 = 0x2100_0006;
-
-const GROUP: u64 = 0x0300_0000;
 
 // A run of one worker, and what its trace has to be: these steps among so many, these replies and
 // lookups, and these versions that the address 0x12 shows at reads.
