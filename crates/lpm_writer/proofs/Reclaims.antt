@@ -318,8 +318,8 @@ module _ {M : Type 0} (did : M → InitialState → List WriterStep → Type 0) 
   passes_item m states passed g t rest z passed' result answers waits may ok =
       let items = (g, t) ∷ rest in
       let one = one_freed m states items passed 0 m states items passed (none_freed m states items passed) g t rest refl z passed' result answers ok waits.0 in
-      let now = one may.0 may.1 may.2 may.3 may.4 may.5 may.6 in
-      (waits.0, waiting_set states g Free rest waits.1 waits.2, (may.0, now.0, may.2, may.3, now.1, now.3, now.4))
+      let now = one may.initial may.steps may.behind may.held may.led may.groups may.may in
+      (waits.0, waiting_set states g Free rest waits.1 waits.2, record { initial = may.initial; steps = now.0; behind = may.behind; held = may.held; led = now.1; groups = now.3; may = now.4 })
 
   -- ---- a reclaim of the queue, whose state is a memory, groups, and the greatest token that has passed
 

@@ -1,5 +1,5 @@
 -- What a writer keeps, before and after its commands.
-use Rattle.std.proofs.Common.{arith, ◌≡◌, ℕ, ◌+◌, ◌-◌, ◌*◌, ◌%◌, ◌^◌, ◌<◌, ◌≤◌, inl, inr, refl, sym, ap, subst, ◌∙◌, List, ◌∷◌, length, Option, Some, None, Bool, false}
+use Rattle.std.proofs.Common.{arith, ◌≡◌, ℕ, ◌+◌, ◌-◌, ◌*◌, ◌%◌, ◌^◌, ◌<◌, ◌≤◌, inl, inr, refl, sym, ap, subst, ◌∙◌, List, [], ◌∷◌, length, Option, Some, None, Bool, false}
 use Rattle.std.proofs.lemmas.Option.{none-some}
 use Rattle.std.specs.Prelude.{IsTrue, ◌↔◌}
 use Rattle.std.proofs.lemmas.Bool.{cases_lt}
@@ -27,7 +27,10 @@ use Rattle.lpm_writer.specs.Limbo.{IsFreed, IsQueued, tokens_of}
 use Rattle.lpm_writer.specs.MemorySteps.{by_writer}
 use Rattle.lpm_writer.specs.GroupsMatch.{HasNothingDue, SameState, OnlyChecks, GroupsMatchSteps}
 use Rattle.lpm_writer.specs.Steps.{StoresOnce}
+use Rattle.lpm_writer.specs.Commands.{MayCommand, MayFree}
 use Rattle.lpm_writer.specs.TakenGroup.{MayTake}
+use Rattle.lpm_writer.specs.declared.control.ControlState.{ControlState}
+use Rattle.lpm_writer.proofs.LimboItems.{no_tail, may_reclaim}
 use Rattle.lpm_writer.specs.GroupToFill.{group_to_fill, unless_linked, IsTakenBy}
 use Rattle.lpm_writer.specs.Rest.{IsBetween, Changes, IsResting, IsDue, state_of}
 use Rattle.lpm_writer.proofs.UpdateRuns.{AsMemory, fit}
@@ -255,6 +258,21 @@ shrinks t f s c steps later config config' rules rules' pool new begun begun' R 
     let same : linked_count pool.groups - linked_count new.groups ≡ groups_in_use f s rules.rules - groups_in_use f s R =
     omega (arith, linked_resting f s c steps config rules pool begun rest, linked_resting f s c later config' rules' new begun' after, ap (groups_in_use f s) gone) in
     (tokens, (k.opened, k.last, k.begins, subst (λ n. Unlinks t config n k.opened (tokens_of pool.queue.items) k.last (tokens_of new.queue.items)) same k.unlinks, k.ends), (gone, next))
+
+-- a test has told that tokens and versions are left
+abbrev pub AreFoundLeft : {f s : ℕ} {M : Type 0} → (M → InitialState → List WriterStep → Type 0) → (M → WriterStep → M → Type 0) → ControlState f s → M → Type 0
+AreFoundLeft did does l m = (b : Bool) × (b ≡ false)
+    × ((c : InitialState) (steps : List WriterStep) → did m c steps → IsTrue b ↔ IsExhausted (by_writer does c) l.config (state_of l.rules.rules (m, steps) l.pool l.versions))
+
+pub found_left : {f s : ℕ} {M : Type 0} (did : M → InitialState → List WriterStep → Type 0) (does : M → WriterStep → M → Type 0) (l : ControlState f s) (m : M) → AreFoundLeft did does l m
+    → (c : InitialState) (steps : List WriterStep) → did m c steps → HasTokens (by_writer does c) l.config (state_of l.rules.rules (m, steps) l.pool l.versions)
+found_left did does l m told c steps may_be = has_tokens (by_writer does c) l.config (state_of l.rules.rules (m, steps) l.pool l.versions) told.0 told.1 (told.2 c steps may_be)
+
+-- groups that wait may be freed where the writer rests
+pub may_free_at_rest : {f s : ℕ} {M : Type 0} (did : M → InitialState → List WriterStep → Type 0) (l : ControlState f s) (m : M) → MayCommand did l m → MayFree did m l.pool.groups l.pool.passed l.pool.queue.items
+may_free_at_rest did l m r =
+    let x = l.pool in
+    record { initial = r.0; steps = r.1; behind = []; held = None; led = r.2; groups = no_tail r.0 r.1 x.groups x.queue.items x.passed None r.3.keeps; may = may_reclaim r.0 r.1 x (between_take r.0 r.1 x r.3.between r.3.keeps) }
 
 -- groups that no block has were freed
 pub tied_freed : (f n : ℕ) (xs ys : List GroupState) (items : List (ℕ × ℕ)) (L : ℕ → Option ℕ) → IsFreed xs items n ys → IsTied f xs L → IsTied f ys L

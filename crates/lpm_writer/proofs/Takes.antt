@@ -1,5 +1,5 @@
 -- What a take of a group comes to, by what its calls leave.
-use Rattle.std.proofs.Common.{arith, ℕ, ◌≡◌, ◌≢◌, ◌≤◌, refl, sym, ap, subst, ◌∙◌, List, [], Option, Some, None, drop, length}
+use Rattle.std.proofs.Common.{arith, ℕ, ◌≡◌, ◌≢◌, ◌≤◌, refl, sym, ap, subst, ◌∙◌, List, [], ◌++◌, Option, Some, None, drop, length}
 use Rattle.std.specs.Prelude.{◌↔◌, slice_set, Ok, IfSome, IfNone, IsNone, IfOk, OnErr}
 use Rattle.std.specs.Option.{ok_or}
 use Rattle.defer_queue.specs.Limbo.{Limbo as Queue}
@@ -11,7 +11,7 @@ use Rattle.lpm_limits.specs.declared.busy.Busy.{Busy}
 use Rattle.lpm_trace.specs.declared.step.WriterStep.{WriterStep}
 use Rattle.lpm_trace.specs.States.{InitialState}
 use Rattle.lpm_writer.specs.declared.pool.GroupPool.{GroupPool}
-use Rattle.lpm_writer.specs.Commands.{FreesBy}
+use Rattle.lpm_writer.specs.Commands.{FreesAt, MayFree}
 use Rattle.lpm_writer.specs.GroupsMatch.{GroupsMatchSteps, OnlyChecks}
 use Rattle.lpm_writer.specs.TakenGroup.{LinksLeast, MayTake, MayTakeAt, TakesAt, Takes, taken_by}
 use Rattle.lpm_writer.specs.MemorySteps.{by_writer}
@@ -31,6 +31,14 @@ pub took_none : (old : List GroupState) (block : ℕ) (found : Option ℕ) (new 
 took_none old block (Some g) new took none = absurd (cc)
 took_none old block None new took none = (took.none.0 refl, took.unchanged)
 
+-- where none was free, the oldest that waits may be freed
+pub may_free : {M : Type 0} (did : M → InitialState → List WriterStep → Type 0) (m : M) (x : GroupPool) (found : Option ℕ) (states : List GroupState) → MayTakeAt did m x → found ≡ None → IfNone found (states ≡ x.groups)
+    → MayFree did m states x.passed x.queue.items
+may_free did m x (Some g) states r was same = absurd (cc)
+may_free did m x None states r was same =
+    let groups = no_tail r.0 r.1 x.groups x.queue.items x.passed None r.3.keeps in
+    record { initial = r.0; steps = r.1; behind = []; held = None; led = r.2; groups = subst (λ ys. GroupsMatchSteps r.0 r.1 ys (x.queue.items ++ []) x.passed None) (sym same) groups; may = may_reclaim r.0 r.1 x r.3 }
+
 module _ {M : Type 0} (did : M → InitialState → List WriterStep → Type 0) (does : M → WriterStep → M → Type 0) where
   -- a group that is free is taken at once
   pub takes_free : (m : M) (x : GroupPool) (g block : ℕ) → IsLeastFree x.groups g
@@ -46,7 +54,7 @@ module _ {M : Type 0} (did : M → InitialState → List WriterStep → Type 0) 
   -- none was free, and one that waits was to be freed
   pub record HasReclaimed (m : M) (x : GroupPool) (z : M) (y : GroupPool) (n : ℕ) (stopped : Option Busy) : Type 0 where
     pub none : free_count x.groups ≡ 0
-    pub reclaims : FreesBy did m x z y (λ c a limbo left b. Reclaims (by_writer does c) a 1 limbo n stopped left b)
+    pub reclaims : FreesAt did does m x 1 (record { freed = n; stopped = stopped }) z y
     pub queue : y.queue ≡ record x.queue { items = drop n x.queue.items }
     pub waiting : AreWaiting y.groups y.queue.items
     pub freed : IsFreed x.groups x.queue.items n y.groups
@@ -58,7 +66,7 @@ module _ {M : Type 0} (did : M → InitialState → List WriterStep → Type 0) 
         → (later : List WriterStep) × did z c later × OnlyChecks c steps later × GroupsMatchSteps c later y.groups y.queue.items y.passed None
         × Reclaims (by_writer does c) (m, steps) 1 (tokens_of x.queue.items) n stopped (tokens_of y.queue.items) (z, later)
     reclaimed c steps may_be may =
-        let done = h.reclaims c steps [] None may_be (no_tail c steps x.groups x.queue.items x.passed None may.keeps) (may_reclaim c steps x may) in
+        let done = h.reclaims.after c steps [] None may_be (no_tail c steps x.groups x.queue.items x.passed None may.keeps) (may_reclaim c steps x may) in
         (done.0, done.1, done.2, without_tail c done.0 y.groups y.queue.items y.passed None done.3, done.4)
 
     still_queued : MayTakeAt did m x → IsQueued x.groups x.queue → IsQueued y.groups y.queue

@@ -2,9 +2,10 @@
 use Rattle.std.specs.Prelude.{ℕ, List, suc, ◌≡◌, ◌<◌, Some, ◌++◌, Option, Result}
 use Rattle.lpm_trace.specs.declared.step.WriterStep.{WriterStep}
 use Rattle.lpm_trace.specs.States.{InitialState, state_after}
-use Rattle.fib_model.specs.State.{State}
+use Rattle.defer_queue.specs.declared.Reclaimed.{Reclaimed}
+use Rattle.fib_model.specs.State.{State, Reclaims}
 use Rattle.lpm_writer.specs.declared.control.ControlState.{ControlState}
-use Rattle.lpm_writer.specs.MemorySteps.{WithSteps, Checks}
+use Rattle.lpm_writer.specs.MemorySteps.{WithSteps, Checks, by_writer}
 use Rattle.lpm_writer.specs.Rest.{IsResting, state_of}
 use Rattle.lpm_groups.specs.declared.GroupState.{GroupState}
 use Rattle.lpm_limits.specs.declared.busy.Busy.{Busy}
@@ -63,11 +64,15 @@ pub record IsWaiting (first second : ℕ) (c : InitialState) (steps : List Write
 
 -- after some steps that may have led to the memory, as `did` tells them, a check of the oldest item may begin;
 -- the groups are what those say, where others may wait behind the items, and one may be held
-abbrev pub MayFree : {M : Type 0} → (M → InitialState → List WriterStep → Type 0) → M → List GroupState → ℕ
-    → List (ℕ × ℕ) → Type 0
-MayFree did m states passed items = (c : InitialState) × (steps : List WriterStep) × (tail : List (ℕ × ℕ))
-    × (held : Option ℕ) × did m c steps × GroupsMatchSteps c steps states (items ++ tail) passed held
-    × MayReclaim c steps items
+pub record MayFree {M : Type 0} (did : M → InitialState → List WriterStep → Type 0) (m : M)
+    (states : List GroupState) (passed : ℕ) (items : List (ℕ × ℕ)) : Type 0 where
+  pub initial : InitialState
+  pub steps : List WriterStep
+  pub behind : List (ℕ × ℕ)
+  pub held : Option ℕ
+  pub led : did m initial steps
+  pub groups : GroupsMatchSteps initial steps states (items ++ behind) passed held
+  pub may : MayReclaim initial steps items
 
 -- A check of a token leads from m, where the greatest that had passed was `passed`, to z, where it is
 -- `later_passed`: whatever steps may have led to m, a check's steps after them may have led to z.
@@ -78,14 +83,15 @@ ChecksBy did does m passed token result z later_passed = (c : InitialState) (ste
     → (later : List WriterStep) × did z c later × Checks does c (m, steps) token result (z, later)
     × Remembers c later later_passed
 
--- whatever steps may have led to the memory m, checks alone were made up to z; P is what came of the tokens
--- that wait
-abbrev pub FreesBy : {M : Type 0} → (M → InitialState → List WriterStep → Type 0) → M → GroupPool
-    → M → GroupPool → (InitialState → WithSteps M → List ℕ → List ℕ → WithSteps M → Type 0) → Type 0
-FreesBy did m old z new P = (c : InitialState) (steps : List WriterStep) (tail : List (ℕ × ℕ))
-    (held : Option ℕ) → did m c steps
-    → GroupsMatchSteps c steps old.groups (old.queue.items ++ tail) old.passed held
-    → MayReclaim c steps old.queue.items
-    → (later : List WriterStep) × did z c later × OnlyChecks c steps later
-    × GroupsMatchSteps c later new.groups (new.queue.items ++ tail) new.passed held
-    × P c (m, steps) (tokens_of old.queue.items) (tokens_of new.queue.items) (z, later)
+-- at most `most` of the groups that waited were freed, as the result tells: whatever steps may have led to the
+-- memory m, checks alone were made up to z
+pub record FreesAt {M : Type 0} (did : M → InitialState → List WriterStep → Type 0)
+    (does : M → WriterStep → M → Type 0) (m : M) (old : GroupPool) (most : ℕ) (result : Reclaimed)
+    (z : M) (new : GroupPool) : Type 0 where
+  pub after : (c : InitialState) (steps : List WriterStep) (tail : List (ℕ × ℕ)) (held : Option ℕ)
+      → did m c steps → GroupsMatchSteps c steps old.groups (old.queue.items ++ tail) old.passed held
+      → MayReclaim c steps old.queue.items
+      → (later : List WriterStep) × did z c later × OnlyChecks c steps later
+      × GroupsMatchSteps c later new.groups (new.queue.items ++ tail) new.passed held
+      × Reclaims (by_writer does c) (m, steps) most (tokens_of old.queue.items) result.freed
+      result.stopped (tokens_of new.queue.items) (z, later)

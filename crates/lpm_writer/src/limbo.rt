@@ -1,10 +1,9 @@
 //! Groups that wait in limbo.
 
 ghost use Rattle.std.specs.Prelude.{◌≡◌, drop, IfOk, OnErr};
-ghost use Rattle.fib_model.specs.State.{Reclaims};
 ghost use Rattle.lpm_writer.specs.Limbo.{AreWaiting, IsFreed, IsQueued, IsTaken};
 ghost use Rattle.lpm_writer.specs.MemorySteps.{by_writer};
-ghost use Rattle.lpm_writer.specs.Commands.{FreesBy, MayFree};
+ghost use Rattle.lpm_writer.specs.Commands.{FreesAt, MayFree};
 ghost use Rattle.lpm_writer.specs.TakenGroup.{LinksLeast, MayTakeAt, Takes, TakesAt, taken_by};
 
 use super::GroupPool;
@@ -18,9 +17,7 @@ use lpm_limits::Busy;
 pub(crate) fn free_waiting<M: Memory>(pool: &mut GroupPool, memory: &mut M, max: usize) -> Reclaimed
     requires waiting { AreWaiting pool.old.groups pool.old.queue.items }
     requires kept { MayFree M.did memory.old pool.old.groups pool.old.passed pool.old.queue.items }
-    ensures reclaims { FreesBy M.did memory.old pool.old memory.new pool.new
-        (λ c x limbo left z. Reclaims (by_writer M.does c) x max limbo result.freed result.stopped
-        left z) }
+    ensures reclaims { FreesAt M.did M.does memory.old pool.old max result memory.new pool.new }
     ensures queue { pool.new.queue ≡ record pool.old.queue {
       items = drop result.freed pool.old.queue.items;
     } }
@@ -43,6 +40,7 @@ pub(crate) fn free_waiting<M: Memory>(pool: &mut GroupPool, memory: &mut M, max:
 
 /// Links the least free group to the block, and returns it. Where none is free, the oldest in limbo is
 /// freed first; the error is the worker that holds it, none where no group waits.
+#[tactic(auto, using(crate::proofs::Takes::may_free))]
 pub(crate) fn take<M: Memory>(
     pool: &mut GroupPool,
     memory: &mut M,

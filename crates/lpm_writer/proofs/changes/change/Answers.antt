@@ -30,9 +30,9 @@ use Rattle.lpm_groups.specs.States.{is_linked}
 use Rattle.lpm_writer.specs.Limbo.{AreWaiting, IsFreed, IsQueued, tokens_of}
 use Rattle.lpm_writer.proofs.LimboItems.{waiting_set, absent_other, linked_limbo, MadeRoom, freed_within, no_more_room, room_above, room_below, retired_queue, retired_room, retired_linked, retired_others, retired_gone}
 use Rattle.lpm_writer.proofs.Reclaims.{may_bump, keeps_bumped, may_make_room, still_same, bumped_on, tokens_append}
-use Rattle.fib_model.specs.State.{MakesRoom, Reclaims}
+use Rattle.fib_model.specs.State.{MakesRoom}
 use Rattle.defer_queue.specs.declared.Reclaimed.{Reclaimed}
-use Rattle.lpm_writer.specs.Commands.{FreesBy}
+use Rattle.lpm_writer.specs.Commands.{FreesAt}
 use Rattle.lpm_groups.proofs.Marks.{Retires-set}
 use Rattle.std.proofs.lemmas.List.{length-map}
 use Rattle.lpm_writer.proofs.changes.change.Goals.{After-open_update, After-bump-token, After-len}
@@ -155,7 +155,7 @@ free_waiting-requires-clause-kept g c =
     let x = c.loop-group.control.pool in
     let h = (unlinked g at.After-bump-token (begins g at.After-open_update)).1 in
     let on = bumped g c.run.new.cells c.bump-token.new.self x c.in-Some.group c.retire.new.self c.bump-token.ensures.does c.retire.ensures h.0 h.1 h.2 h.3 h.4 in
-    (h.0, BumpToken ∷ h.1, (c.in-Some.group, suc (state_after h.0 h.1).token) ∷ [], h.2, on.0, on.1, on.2)
+    record { initial = h.0; steps = BumpToken ∷ h.1; behind = (c.in-Some.group, suc (state_after h.0 h.1).token) ∷ []; held = h.2; led = on.0; groups = on.1; may = on.2 }
 
 pub retire-requires-in-Some : goal.retire-requires-in-Some
 retire-requires-in-Some g c =
@@ -169,7 +169,7 @@ retire-requires-in-Some g c =
 -- more than the threshold wait, and else all is as it was
 data Came (g : Over) (x : ControlState g.row.FIRST g.row.SECOND) (states : List GroupState) (m : g.row.M.Denot) (long : ℕ) (y : ControlState g.row.FIRST g.row.SECOND) (z : g.row.M.Denot) : Type 0 where
   by_freeing : (r : Reclaimed) (pool : GroupPool) (last : g.row.M.Denot) → y ≡ record x { pool = pool } → z ≡ last → x.config.threshold < long
-      → FreesBy g.M.Memory.did m (record x.pool { groups = states }) last pool (λ s a limbo left b. Reclaims (by_writer g.M.Memory.does s) a x.config.reclaim_max limbo r.freed r.stopped left b)
+      → FreesAt g.M.Memory.did g.M.Memory.does m (record x.pool { groups = states }) x.config.reclaim_max r last pool
       → pool.queue ≡ record x.pool.queue { items = drop r.freed x.pool.queue.items } → AreWaiting pool.groups pool.queue.items → IsFreed states x.pool.queue.items r.freed pool.groups
       → Came g x states m long y z
   by_nothing : y ≡ record x { pool = record x.pool { groups = states } } → z ≡ m → long ≤ x.config.threshold → Came g x states m long y z
@@ -198,7 +198,7 @@ made : (g : Over) (x y : ControlState g.row.FIRST g.row.SECOND) (n : ℕ) (state
     → (s : InitialState) (steps : List WriterStep) (held : Option ℕ) → g.M.Memory.did b s steps → HasUnlinked s steps x.pool n held → HasRoomFor g x n y
 made g x y n states b m z long (by_freeing r pool last same there above reclaims queue waiting freed) does set waits s steps held did h =
     let on = bumped g b m x.pool n states does set s steps held did h in
-    let done = reclaims s (BumpToken ∷ steps) ((n, suc (state_after s steps).token) ∷ []) held on.0 on.1 on.2 in
+    let done = reclaims.after s (BumpToken ∷ steps) ((n, suc (state_after s steps).token) ∷ []) held on.0 on.1 on.2 in
     subst (HasRoomFor g x n) (sym same) (
       record { n = r.freed; few = freed_within x.pool.queue.items done.4; queue = queue; waits = waiting; freed = subst (λ ys. IsFreed ys x.pool.queue.items r.freed pool.groups) set freed },
       refl,
@@ -220,7 +220,7 @@ went : (g : Over) (x y : ControlState g.row.FIRST g.row.SECOND) (n : ℕ) (state
     → (s : InitialState) (steps : List WriterStep) (held : Option ℕ) → g.M.Memory.did b s steps → HasUnlinked s steps x.pool n held → WentTo g x.config s steps held x.pool n m y.pool z
 went g x y n states b m z long (by_freeing r pool last same there above reclaims queue waiting freed) does set is s steps held did h =
     let on = bumped g b m x.pool n states does set s steps held did h in
-    let done = reclaims s (BumpToken ∷ steps) ((n, suc (state_after s steps).token) ∷ []) held on.0 on.1 on.2 in
+    let done = reclaims.after s (BumpToken ∷ steps) ((n, suc (state_after s steps).token) ∷ []) held on.0 on.1 on.2 in
     let limbo = tokens_of x.pool.queue.items in
     let more : x.config.threshold < length limbo = omega (arith, above, is, length-map x.pool.queue.items (λ item. item.1)) in
     let room = room_above (by_writer g.M.Memory.does s) x.config (m, BumpToken ∷ steps) (last, done.0) limbo (tokens_of pool.queue.items) r.freed r.stopped more done.4 in

@@ -25,7 +25,7 @@ use Rattle.lpm_writer.specs.MemorySteps.{by_writer}
 use Rattle.lpm_writer.specs.Rest.{IsResting, IsDue, state_of}
 use Rattle.lpm_writer.specs.Commands.{Commands, Rests}
 use Rattle.lpm_writer.proofs.StepsAlone.{after_find}
-use Rattle.lpm_writer.proofs.Rests.{linked_resting, between_take, has_tokens, rests_still}
+use Rattle.lpm_writer.proofs.Rests.{AreFoundLeft, linked_resting, between_take, has_tokens, rests_still}
 use Rattle.lpm_writer.proofs.Additions.{absent, found_due, found_linked, found_adds, none_adds, Ok', put_room, taken_back}
 use Rattle.lpm_writer.proofs.control.add_rule.Given.{Over}
 use Rattle.lpm_writer.proofs.control.add_rule.Goals.{After-add-update, After-change, After-remove}
@@ -92,7 +92,8 @@ ready g c rules put_in queued put is initial steps did rest =
     let finds = subst (λ (V : Words). Finds t f s V.firsts p x l.pool (Ok group) (memory, found.0) pool) (g.met.M.Memory.shows m initial steps began).0 found.4 in
     let nothing = after_find k.does initial f s (state_after initial steps).words.firsts p x l.pool (Ok group) (memory, found.0) pool finds in
     let sound : IsNetwork (f + s) p × (c.args.hop < 2 ^ 24) = (c.bits-bits.ensures.network, subst (λ n. n < 2 ^ 24) c.number-number.ensures.value c.number-number.ensures.bound) in
-    let left = has_tokens t l.config (state_of l.rules.rules x l.pool l.versions) c.is_exhausted.result c.if-is_exhausted.false (c.is_exhausted.ensures initial steps did) in (
+    let told : AreFoundLeft k.did k.does l c.args.memory.now = search in
+    let left = has_tokens t l.config (state_of l.rules.rules x l.pool l.versions) told.0 told.1 (told.2 initial steps did) in (
       found.0,
       found.1,
       found_due f s initial steps l.config l.rules l.pool l.versions rest p low t x c.args.hop group (memory, found.0) pool found.0 rules u.result put
@@ -237,7 +238,8 @@ refused g c = λ initial steps did rest.
     let none = absent f s initial steps l.config l.rules l.pool l.versions rest p low finds.0 in
     let back : c.remove.new.self ≡ l.rules = taken_back l.rules p h _ c.remove.new.self c.remove.result (search rules) none c.remove.ensures.hop c.remove.ensures.ok in
     let room = put_room l.rules.rules p h l.rules.max put.0 same put.1.0 fresh none in
-    let left = has_tokens t l.config (state_of l.rules.rules x l.pool l.versions) c.is_exhausted.result c.if-is_exhausted.false (c.is_exhausted.ensures initial steps did) in
+    let told : AreFoundLeft k.did k.does l c.args.memory.now = search in
+    let left = has_tokens t l.config (state_of l.rules.rules x l.pool l.versions) told.0 told.1 (told.2 initial steps did) in
     let tied = subst (λ xs. IsTied f xs (group_at (state_after initial steps).words.firsts)) (sym stays.0) rest.tied in
     let after = rests_still f s initial steps found.0 l.config l.rules l.pool pool l.versions rest found.2 nothing found.3 tied queued (ap length stays.0) in
     let adds = none_adds f s initial steps l.config l.rules l.pool l.versions rest p low t x h oldest (memory, found.0) pool finds stays.1 room left in (

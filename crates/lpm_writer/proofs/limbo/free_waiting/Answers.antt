@@ -8,8 +8,10 @@ use Rattle.lpm_writer.proofs.limbo.free_waiting.Goals as goal
 pub returns-clause-reclaims : goal.returns-clause-reclaims
 returns-clause-reclaims g c =
     let r = c.reclaim in
-    reclaimed_steps g.M.Memory.did g.M.Memory.does (λ s. s.memory.now) (λ s. s.groups.now) (λ s. s.passed.now) c.args.max r.result.freed c.args.pool.now.queue.items _ c.requires.waiting
-    r.result.stopped r.new.self.items _ r.new.grace r.ensures.reclaims (search rules)
+    record {
+      after = reclaimed_steps g.M.Memory.did g.M.Memory.does (λ s. s.memory.now) (λ s. s.groups.now) (λ s. s.passed.now) c.args.max r.result.freed c.args.pool.now.queue.items _ c.requires.waiting
+          r.result.stopped r.new.self.items _ r.new.grace r.ensures.reclaims (search rules);
+    }
 
 pub returns-clause-waiting : goal.returns-clause-waiting
 returns-clause-waiting g c =

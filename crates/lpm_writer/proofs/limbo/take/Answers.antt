@@ -1,16 +1,18 @@
-use Rattle.std.proofs.Common.{rules, ℕ, ◌≡◌, sym, subst, List, [], ◌++◌, Option, None}
+use Rattle.std.proofs.Common.{rules, ℕ, ◌≡◌, sym, subst, List, Option, None}
 use Rattle.lpm_groups.specs.declared.GroupState.{GroupState}
 use Rattle.std.specs.Prelude.{Ok, IfNone, IfOk, OnErr}
 use Rattle.std.specs.Option.{ok_or}
+use Rattle.defer_queue.specs.declared.Reclaimed.{Reclaimed}
 use Rattle.lpm_groups.specs.States.{free_count}
-use Rattle.lpm_writer.specs.GroupsMatch.{GroupsMatchSteps}
+use Rattle.lpm_writer.specs.Commands.{FreesAt}
+use Rattle.lpm_writer.specs.declared.pool.GroupPool.{GroupPool}
 use Rattle.lpm_writer.specs.TakenGroup.{LinksLeast, Takes, TakesAt, taken_by}
 use Rattle.lpm_writer.specs.MemorySteps.{by_writer}
 use Rattle.lpm_writer.specs.Limbo.{IsQueued, IsTaken}
-use Rattle.lpm_writer.proofs.LimboItems.{taken_from, taken_queue, least_linked, no_tail, may_reclaim}
+use Rattle.lpm_writer.proofs.LimboItems.{taken_from, taken_queue, least_linked}
 use Rattle.lpm_writer.proofs.Takes.{HasReclaimed, HasTakenLeast, took_none, takes_free, takes_oldest, oldest_linked, oldest_least, oldest_unchanged, oldest_queued}
 use Rattle.lpm_writer.proofs.limbo.take.Given.{Over}
-use Rattle.lpm_writer.proofs.limbo.take.Goals.{After-free_waiting-reclaimed, After-ok_or}
+use Rattle.lpm_writer.proofs.limbo.take.Goals.{After-ok_or}
 use Rattle.lpm_writer.proofs.limbo.take.Goals as goal
 
 -- a group that was free is taken
@@ -41,57 +43,52 @@ returns-in-Some-clause-queued g c =
 
 -- no group was free
 
-pub free_waiting-reclaimed-requires-clause-kept : goal.free_waiting-reclaimed-requires-clause-kept
-free_waiting-reclaimed-requires-clause-kept g c =
-    let x = c.args.pool.now in
-    let r = c.requires.rests in
-    let was : c.take_least.result ≡ None = search rules in
-    let e = c.take_least.ensures in
-    let none = took_none x.groups c.args.block c.take_least.result c.take_least.new.self (record { least = e.least; linked = e.linked; none = e.none; unchanged = e.unchanged }) was in
-    (r.0, r.1, [], None, r.2, subst (λ ys. GroupsMatchSteps r.0 r.1 ys (x.queue.items ++ []) x.passed None) (sym none.1) (no_tail r.0 r.1 x.groups x.queue.items x.passed None r.3.keeps), may_reclaim r.0 r.1 x r.3)
+-- the oldest was to be freed: what was, and what that left
+abbrev pub freed_at : (g : Over) (c : After-ok_or g)
+    → (old : GroupPool) × (result : Reclaimed) × (memory : g.row.M.Denot) × (pool : GroupPool) × FreesAt g.M.Memory.did g.M.Memory.does c.args.memory.now old 1 result memory pool
+freed_at g c = search
 
--- the oldest was to be freed
-oldest : (g : Over) (c : After-free_waiting-reclaimed g) → HasReclaimed g.M.Memory.did g.M.Memory.does c.args.memory.now c.args.pool.now c.free_waiting-reclaimed.new.memory c.free_waiting-reclaimed.new.pool c.free_waiting-reclaimed.result.freed c.free_waiting-reclaimed.result.stopped
+oldest : (g : Over) (c : After-ok_or g)
+    → let freed = freed_at g c in HasReclaimed g.M.Memory.did g.M.Memory.does c.args.memory.now c.args.pool.now freed.2 freed.3 freed.1.freed freed.1.stopped
 oldest g c =
     let x = c.args.pool.now in
-    let r = c.free_waiting-reclaimed in
+    let freed = freed_at g c in
     let was : c.take_least.result ≡ None = search rules in
     let e = c.take_least.ensures in
     let none = took_none x.groups c.args.block c.take_least.result c.take_least.new.self (record { least = e.least; linked = e.linked; none = e.none; unchanged = e.unchanged }) was in
-    subst (λ ys. HasReclaimed g.M.Memory.did g.M.Memory.does c.args.memory.now (record x { groups = ys }) r.new.memory r.new.pool r.result.freed r.result.stopped) none.1 (record {
+    subst (λ ys. HasReclaimed g.M.Memory.did g.M.Memory.does c.args.memory.now (record x { groups = ys }) freed.2 freed.3 freed.1.freed freed.1.stopped) none.1 (record {
       none = subst (λ ys. free_count ys ≡ 0) (sym none.1) none.0;
-      reclaims = r.ensures.reclaims;
-      queue = r.ensures.queue;
-      waiting = r.ensures.waiting;
-      freed = r.ensures.freed;
-      unchanged = r.ensures.unchanged;
+      reclaims = freed.4;
+      queue = search;
+      waiting = search;
+      freed = search;
+      unchanged = search;
     })
 
 -- then the least that was free by then was taken, or none was
-abbrev pub found_at : (g : Over) (c : After-ok_or g) → (found : Option ℕ) × (c.ok_or.result ≡ ok_or found c.free_waiting-reclaimed.result.stopped)
+abbrev pub found_at : (g : Over) (c : After-ok_or g) → (found : Option ℕ) × (c.ok_or.result ≡ ok_or found (freed_at g c).1.stopped)
 found_at g c = search
 
-abbrev pub states_at : (g : Over) (c : After-ok_or g) → (states : List GroupState) × IfNone (found_at g c).0 (states ≡ c.free_waiting-reclaimed.new.pool.groups)
+abbrev pub states_at : (g : Over) (c : After-ok_or g) → (states : List GroupState) × IfNone (found_at g c).0 (states ≡ (freed_at g c).3.groups)
 states_at g c = search
 
-took : (g : Over) (c : After-ok_or g) → HasTakenLeast c.free_waiting-reclaimed.new.pool.groups c.args.block (found_at g c).0 (states_at g c).0
+took : (g : Over) (c : After-ok_or g) → HasTakenLeast (freed_at g c).3.groups c.args.block (found_at g c).0 (states_at g c).0
 took g c = record { least = search; linked = search; none = search rules; unchanged = (states_at g c).1 }
 
 -- what the contract says of it, clause by clause
 abbrev TakesOldest : (g : Over) → After-ok_or g → Type 0
 TakesOldest g c =
-    let r = c.free_waiting-reclaimed in
-    let y = record r.new.pool { groups = (states_at g c).0 } in
-    TakesAt g.M.Memory.did c.args.memory.now c.args.pool.now r.new.memory y (taken_by c.ok_or.result) (λ s a z. Takes (by_writer g.M.Memory.does s) a c.args.pool.now c.ok_or.result z y)
+    let freed = freed_at g c in
+    let y = record freed.3 { groups = (states_at g c).0 } in
+    TakesAt g.M.Memory.did c.args.memory.now c.args.pool.now freed.2 y (taken_by c.ok_or.result) (λ s a z. Takes (by_writer g.M.Memory.does s) a c.args.pool.now c.ok_or.result z y)
 
 takes : (g : Over) (c : After-ok_or g) → TakesOldest g c
 takes g c =
     let x = c.args.pool.now in
-    let r = c.free_waiting-reclaimed in
-    let y = record r.new.pool { groups = (states_at g c).0 } in
-    let at : After-free_waiting-reclaimed g = search in
-    subst (λ found. TakesAt g.M.Memory.did c.args.memory.now x r.new.memory y (taken_by found) (λ s a z. Takes (by_writer g.M.Memory.does s) a x found z y)) (sym (found_at g c).1)
-    (takes_oldest g.M.Memory.did g.M.Memory.does c.args.memory.now x r.new.memory r.new.pool r.result.freed r.result.stopped (oldest g at) c.args.block (states_at g c).0 (found_at g c).0 (took g c))
+    let freed = freed_at g c in
+    let y = record freed.3 { groups = (states_at g c).0 } in
+    subst (λ found. TakesAt g.M.Memory.did c.args.memory.now x freed.2 y (taken_by found) (λ s a z. Takes (by_writer g.M.Memory.does s) a x found z y)) (sym (found_at g c).1)
+    (takes_oldest g.M.Memory.did g.M.Memory.does c.args.memory.now x freed.2 freed.3 freed.1.freed freed.1.stopped (oldest g c) c.args.block (states_at g c).0 (found_at g c).0 (took g c))
 
 abbrev LinksOldest : (g : Over) → After-ok_or g → Type 0
 LinksOldest g c = IfOk c.ok_or.result (λ n. IsTaken c.args.pool.now.groups n c.args.block (states_at g c).0)
@@ -99,33 +96,29 @@ LinksOldest g c = IfOk c.ok_or.result (λ n. IsTaken c.args.pool.now.groups n c.
 links : (g : Over) (c : After-ok_or g) → LinksOldest g c
 links g c =
     let x = c.args.pool.now in
-    let r = c.free_waiting-reclaimed in
-    let at : After-free_waiting-reclaimed g = search in
+    let freed = freed_at g c in
     subst (λ found. IfOk found (λ n. IsTaken x.groups n c.args.block (states_at g c).0)) (sym (found_at g c).1)
-    (oldest_linked g.M.Memory.did g.M.Memory.does c.args.memory.now x r.new.memory r.new.pool r.result.freed r.result.stopped (oldest g at) c.args.block (states_at g c).0 (found_at g c).0 (took g c))
+    (oldest_linked g.M.Memory.did g.M.Memory.does c.args.memory.now x freed.2 freed.3 freed.1.freed freed.1.stopped (oldest g c) c.args.block (states_at g c).0 (found_at g c).0 (took g c))
 
 least : (g : Over) (c : After-ok_or g) → LinksLeast c.args.pool.now.groups (states_at g c).0
 least g c =
-    let r = c.free_waiting-reclaimed in
-    let at : After-free_waiting-reclaimed g = search in
-    oldest_least g.M.Memory.did g.M.Memory.does c.args.memory.now c.args.pool.now r.new.memory r.new.pool r.result.freed r.result.stopped (oldest g at) c.args.block (states_at g c).0 (found_at g c).0 (took g c)
+    let freed = freed_at g c in
+    oldest_least g.M.Memory.did g.M.Memory.does c.args.memory.now c.args.pool.now freed.2 freed.3 freed.1.freed freed.1.stopped (oldest g c) c.args.block (states_at g c).0 (found_at g c).0 (took g c)
 
 abbrev StaysWhole : (g : Over) → After-ok_or g → Type 0
-StaysWhole g c = OnErr c.ok_or.result (((states_at g c).0 ≡ c.args.pool.now.groups) × (c.free_waiting-reclaimed.new.pool.queue ≡ c.args.pool.now.queue))
+StaysWhole g c = OnErr c.ok_or.result (((states_at g c).0 ≡ c.args.pool.now.groups) × ((freed_at g c).3.queue ≡ c.args.pool.now.queue))
 
 stays : (g : Over) (c : After-ok_or g) → StaysWhole g c
 stays g c =
     let x = c.args.pool.now in
-    let r = c.free_waiting-reclaimed in
-    let at : After-free_waiting-reclaimed g = search in
-    subst (λ found. OnErr found (((states_at g c).0 ≡ x.groups) × (r.new.pool.queue ≡ x.queue))) (sym (found_at g c).1)
-    (oldest_unchanged g.M.Memory.did g.M.Memory.does c.args.memory.now x r.new.memory r.new.pool r.result.freed r.result.stopped (oldest g at) c.args.block (states_at g c).0 (found_at g c).0 (took g c))
+    let freed = freed_at g c in
+    subst (λ found. OnErr found (((states_at g c).0 ≡ x.groups) × (freed.3.queue ≡ x.queue))) (sym (found_at g c).1)
+    (oldest_unchanged g.M.Memory.did g.M.Memory.does c.args.memory.now x freed.2 freed.3 freed.1.freed freed.1.stopped (oldest g c) c.args.block (states_at g c).0 (found_at g c).0 (took g c))
 
-queued : (g : Over) (c : After-ok_or g) → IsQueued (states_at g c).0 c.free_waiting-reclaimed.new.pool.queue
+queued : (g : Over) (c : After-ok_or g) → IsQueued (states_at g c).0 (freed_at g c).3.queue
 queued g c =
-    let r = c.free_waiting-reclaimed in
-    let at : After-free_waiting-reclaimed g = search in
-    oldest_queued g.M.Memory.did g.M.Memory.does c.args.memory.now c.args.pool.now r.new.memory r.new.pool r.result.freed r.result.stopped (oldest g at) c.args.block (states_at g c).0 (found_at g c).0 (took g c) c.requires.rests c.requires.queued
+    let freed = freed_at g c in
+    oldest_queued g.M.Memory.did g.M.Memory.does c.args.memory.now c.args.pool.now freed.2 freed.3 freed.1.freed freed.1.stopped (oldest g c) c.args.block (states_at g c).0 (found_at g c).0 (took g c) c.requires.rests c.requires.queued
 
 -- The return's goals have the first name where the first `take_least` is tested by an `if let` that returns, the
 -- second where it is by a `match`, and the third where the `if let` has an `else`.
@@ -166,11 +159,11 @@ returns-in-None-clause-unchanged = stays
 pub returns-in_default-clause-unchanged : (g : Over) (c : After-ok_or g) → StaysWhole g c
 returns-in_default-clause-unchanged = stays
 
-pub returns-clause-queued : (g : Over) (c : After-ok_or g) → IsQueued (states_at g c).0 c.free_waiting-reclaimed.new.pool.queue
+pub returns-clause-queued : (g : Over) (c : After-ok_or g) → IsQueued (states_at g c).0 (freed_at g c).3.queue
 returns-clause-queued = queued
 
-pub returns-in-None-clause-queued : (g : Over) (c : After-ok_or g) → IsQueued (states_at g c).0 c.free_waiting-reclaimed.new.pool.queue
+pub returns-in-None-clause-queued : (g : Over) (c : After-ok_or g) → IsQueued (states_at g c).0 (freed_at g c).3.queue
 returns-in-None-clause-queued = queued
 
-pub returns-in_default-clause-queued : (g : Over) (c : After-ok_or g) → IsQueued (states_at g c).0 c.free_waiting-reclaimed.new.pool.queue
+pub returns-in_default-clause-queued : (g : Over) (c : After-ok_or g) → IsQueued (states_at g c).0 (freed_at g c).3.queue
 returns-in_default-clause-queued = queued

@@ -6,7 +6,7 @@ check_token-requires g c =
     let s = c.args.self.now in
     let front = c.requires in
     let may = front.2.1 in
-    record { may = (may.0, may.1, may.4, may_ask may.0 may.1 s.groups.now front.0 c.args.token front.1 may.2 s.passed.now may.3 may.5 may.6) }
+    record { may = (may.initial, may.steps, may.led, may_ask may.initial may.steps s.groups.now front.0 c.args.token front.1 may.behind s.passed.now may.held may.groups may.may) }
 
 pub returns-clause-passed : goal.returns-clause-passed
 returns-clause-passed g c =
