@@ -1,5 +1,5 @@
 -- A run by counters is followed by one by reader intervals, command by command.
-use Rattle.std.proofs.Common.{◌≡◌, ℕ, ◌<◌, ◌≤◌, ◌↔◌, refl, ap, sym, subst, List, [], ◌∷◌, Ok, Err, arith, ◌+◌, ◌∙◌, ◌++◌, length, take, get_or, reverse, remove, Result}
+use Rattle.std.proofs.Common.{◌≡◌, ℕ, ◌<◌, ◌≤◌, ◌↔◌, refl, ap, sym, subst, List, [], ◌∷◌, Ok, Err, arith, ◌+◌, ◌∙◌, ◌++◌, length, take, get_or, Result}
 use Rattle.qsbr.specs.Counters.{Registry}
 use Rattle.lpm_limits.specs.declared.config.Config.{Config}
 use Rattle.lpm_limits.specs.declared.refusal.Refusal.TheVariants.{NoSuchWorker}
@@ -16,7 +16,7 @@ use Rattle.fib_model.specs.Laws.{Agrees, CountersTellIntervals}
 use Rattle.fib_model.proofs.Holders.{Shows, IsName, online, held, shows_opened, shows_told, Names, names_newer, counters_carry}
 use Rattle.fib_model.proofs.TwoWays.{Follows, AreFollowed, AreNamed, beside}
 use Rattle.fib_model.proofs.Relations.{named_length, named_at, changes_carry_over, Keeps, IsKept, AnyName, tokens_alone, changes_keep}
-use Rattle.std.proofs.lemmas.List.{length-take-le, take_more, reverse-append}
+use Rattle.std.proofs.lemmas.List.{length-take-le, take_more}
 use Rattle.std.proofs.lemmas.Bool.{eqb-true, false≢true}
 use Rattle.fib_model.specs.declared.event.Event.TheVariants.{Online, Offline, Quiescent, Unlinking}
 use Rattle.qsbr.proofs.RunningIntervals.{tidy_more}
@@ -129,18 +129,6 @@ logged_more f g orders i outcomes more order d outcome low each is pushed =
     ∙ ap (λ cs. log_after [] cs (outcomes ++ outcome ∷ [])) (take_more orders i d low)
     ∙ ap (λ e. log_after [] (take i orders ++ e ∷ []) (outcomes ++ outcome ∷ [])) (sym is)
     ∙ logged_last f g [] (take i orders) outcomes order outcome (omega (arith, size, each))
-
--- What is pushed last is the newest, and the front of a list is taken.
-
-pub newest : (xs : List Event) (e : Event) → reverse (xs ++ e ∷ []) ≡ e ∷ reverse xs
-newest xs e = reverse-append xs (e ∷ [])
-
-pub tidy_pushed : (workers : ℕ) (xs : List Event) (e : Event) (ys : List Event) → ys ≡ xs ++ e ∷ [] → IsTidy by_reports workers (e ∷ reverse xs) → IsTidy by_reports workers (reverse ys)
-tidy_pushed workers xs e ys is tidy = subst (IsTidy by_reports workers) (sym (ap reverse is ∙ newest xs e)) tidy
-
-pub front_removed : (limbo : List ℕ) (u d : ℕ) → 0 < length limbo → u ≡ get_or limbo 0 d → limbo ≡ u ∷ remove limbo 0
-front_removed [] u d some is = absurd (omega (arith, some))
-front_removed (x ∷ limbo) u d some is = ap (λ y. y ∷ limbo) (sym is)
 
 -- Events stay tidy.
 

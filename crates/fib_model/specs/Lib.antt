@@ -3,4 +3,3 @@ pub mod Outcomes
 pub mod Counters
 pub mod Textbook
 pub mod Laws
-pub mod Accounts

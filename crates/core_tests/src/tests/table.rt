@@ -3,7 +3,8 @@ ghost use Rattle.lpm_bits.specs.Widths.{IsShape};
 use super::asserts::{assert_at, assert_shown};
 use super::cases::{LOOKUPS, UPDATES, Worked};
 use fib::{Fib, Replay};
-use fib_model::{Account, Order, Outcome, expected};
+use fib_model::{Order, Outcome};
+use fib_reference::{Account, account_of};
 use lpm_bits::{Hop, Shape};
 use lpm_groups::Counts;
 use lpm_limits::{BadConfig, Busy, Config, Refusal};
@@ -65,7 +66,7 @@ fn assert_agrees<const FIRST: u32, const SECOND: u32>(
     requires { IsShape FIRST SECOND }
 {
     assert!(rt; config.check().is_ok());
-    let account = expected(alloc, &config, orders).expect(rt, "memory");
+    let account = account_of(alloc, &config, orders).expect(rt, "memory");
     let outcomes = fib.execute_all(alloc, orders).expect(rt, "memory");
     assert_at(
         rt,
@@ -127,7 +128,7 @@ fn assert_account(
 
 fn assert_computed(rt: &impl Abort, alloc: Global, case: &Worked, orders: &[Order<24, 8>]) {
     assert!(rt; case.config.check().is_ok());
-    let account = expected(alloc, &case.config, orders).expect(rt, "memory");
+    let account = account_of(alloc, &case.config, orders).expect(rt, "memory");
     assert_account(rt, alloc, case, &account.outcomes, figures_of(&account));
 }
 
