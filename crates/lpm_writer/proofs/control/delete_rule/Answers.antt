@@ -84,9 +84,13 @@ deleted g c = λ initial steps did rest.
       ),
     )
 
--- the return's goal has the first name where it ends the function, and the second where it ends an arm of a `match`
+-- the return's goal has the first name where it ends the function, the second where it ends an arm of a `match`, and
+-- the third where the other test has the return
 pub returns-clause-deletes : (g : Over) (c : After-change g) → Deleted g c
 returns-clause-deletes = deleted
 
 pub returns-in-Ok-clause-deletes : (g : Over) (c : After-change g) → Deleted g c
 returns-in-Ok-clause-deletes = deleted
+
+pub returns-then-not-is_exhausted-clause-deletes : (g : Over) (c : After-change g) → Deleted g c
+returns-then-not-is_exhausted-clause-deletes = deleted
