@@ -42,7 +42,7 @@ pub record IsAccount (first second : ℕ) (c : Config) (orders : List (Order fir
   pub each : length a.outcomes.items ≡ length orders
   pub rules : a.rules ≡ len state.rules
   pub versions : a.versions ≡ state.updates_begun
-  pub in_use : a.in_use ≡ groups_in_use first second state.rules
-  pub limbo : a.limbo ≡ length state.limbo
-  pub free : a.free ≡ c.groups - groups_in_use first second state.rules - length state.limbo
+  pub in_use : a.counts.in_use ≡ groups_in_use first second state.rules
+  pub limbo : a.counts.limbo ≡ length state.limbo
+  pub free : a.counts.free ≡ c.groups - groups_in_use first second state.rules - length state.limbo
   pub token : a.token ≡ (textbook c).token state.readers

@@ -7,6 +7,7 @@ ghost use Rattle.fib_reference.specs.Accounts.{IsAccount};
 
 use crate::plain::{Account, Plain};
 use fib_model::Order;
+use lpm_groups::Counts;
 use lpm_limits::Config;
 use std::alloc::{AllocError, Global};
 
@@ -32,9 +33,11 @@ pub fn account_of<const FIRST: u32, const SECOND: u32>(
         outcomes,
         rules: plain.rules.len(),
         versions: plain.updates_begun,
-        in_use: plain.rules.deep_blocks(),
-        limbo: plain.limbo.places.len(),
-        free: plain.free(config),
+        counts: Counts {
+            in_use: plain.rules.deep_blocks(),
+            limbo: plain.limbo.places.len(),
+            free: plain.free(config),
+        },
         token: plain.limbo.token(config),
     })
 }

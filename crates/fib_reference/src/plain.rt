@@ -8,6 +8,7 @@ ghost use Rattle.lpm_limits.specs.Limits.{IsConfig};
 use crate::limbo::PlainLimbo;
 use fib_model::{Order, Outcome, ReaderReport};
 use lpm_bits::{Hop, Prefix, Shape};
+use lpm_groups::Counts;
 use lpm_limits::{Config, Refusal};
 use lpm_rules::{Put, Rules};
 use std::alloc::{AllocError, Global};
@@ -21,12 +22,8 @@ pub struct Account {
     pub rules: usize,
     /// How many versions the rule list had.
     pub versions: u64,
-    /// How many groups are in use.
-    pub in_use: usize,
-    /// How many groups wait.
-    pub limbo: usize,
-    /// How many groups are free.
-    pub free: usize,
+    /// How many groups are in use, in limbo and free.
+    pub counts: Counts,
     /// The token number.
     pub token: u64,
 }

@@ -43,16 +43,12 @@ pub(crate) fn figures_of_replay(replay: &Replay) -> Figures {
 }
 
 fn figures_of(account: &Account) -> Figures {
-    let Account {
-        rules,
-        versions,
-        in_use,
-        limbo,
-        free,
-        token,
-        ..
-    } = account;
-    (*rules, *versions, *in_use, *limbo, *free, *token)
+    figures_with(
+        account.rules,
+        account.versions,
+        account.counts,
+        account.token,
+    )
 }
 
 // The table, which was just opened, does what the slow program computes.
