@@ -2,6 +2,7 @@
 use Rattle.std.specs.Prelude.{Bool, true, false, [], ⊤}
 use Rattle.std.specs.FinMap.{empty}
 use Rattle.lpm_limits.specs.Limits.{default_config}
+use Rattle.shared_words.specs.Layout.{no_initial_data}
 use Rattle.saxiko.specs.Owners.{OwnerState}
 use Rattle.shared_fib.specs.RunningTable.{Identity, initial_writer}
 use Rattle.saxiko_c.specs.declared.stage.Stage.{Stage}
@@ -11,7 +12,7 @@ use Rattle.saxiko_c.specs.declared.stage.Stage.TheVariants.{AtRest, Waiting, Mov
 abbrev no_table : Identity
 no_table = record {
   words = record { words = 0; slots = 0; views_name = 0; atom = 0; block = 0; offset = 0; slot_names = [] };
-  initial = record { first = 0; second = 0; workers = 0; token = 0; firsts = []; seconds = []; rules = empty; blocks = [] };
+  initial = no_initial_data;
 }
 
 -- its state; between the two it stands for none
@@ -30,7 +31,7 @@ waits_in (Waiting period) = true
 waits_in Moving = false
 
 -- it isn't on its way from one to the other
-abbrev pub IsSettled : Stage → Type 0
-IsSettled (AtRest owner) = ⊤
-IsSettled (Waiting period) = ⊤
-IsSettled Moving = ⊥
+abbrev pub IsNotMoving : Stage → Type 0
+IsNotMoving (AtRest owner) = ⊤
+IsNotMoving (Waiting period) = ⊤
+IsNotMoving Moving = ⊥

@@ -6,7 +6,7 @@ ghost use Rattle.lpm_trace.specs.Laws.{IsChecked};
 ghost use Rattle.lpm_writer.specs.Steps.{Checks};
 ghost use Rattle.shared_fib.specs.RunningTable.{passed_of, steps_of, token_of};
 ghost use Rattle.saxiko_c.specs.Grace.{ChecksOnce, Starts};
-ghost use Rattle.saxiko_c.specs.Stages.{IsSettled, waits_in};
+ghost use Rattle.saxiko_c.specs.Stages.{IsNotMoving, waits_in};
 ghost use Rattle.saxiko_c.specs.declared.stage.Stage.TheVariants.{AtRest, Moving, Waiting};
 
 use crate::owner::Owner;
@@ -21,7 +21,7 @@ use std::mem;
 /// Takes the owner out of a stage at rest.
 #[inline]
 fn take_owner(stage: &mut Stage) -> saxiko::Owner
-    requires settled { IsSettled stage.old }
+    requires settled { IsNotMoving stage.old }
     requires at_rest { waits_in stage.old ≡ false }
     ensures out { stage.old ≡ AtRest result }
     ensures moves { stage.new ≡ Moving }

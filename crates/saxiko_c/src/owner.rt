@@ -18,7 +18,7 @@ pub struct Owner {
 
 impl Model for Owner {
     ghost use Rattle.saxiko_c.specs.RunningTable.{StagedOwner, coded_owner};
-    ghost use Rattle.saxiko_c.specs.Stages.{IsSettled, owned_in, waits_in};
+    ghost use Rattle.saxiko_c.specs.Stages.{IsNotMoving, owned_in, waits_in};
 
     ghost Value = { StagedOwner };
 
@@ -30,7 +30,7 @@ impl Model for Owner {
       bench = (owned_in o.stage).bench;
     } };
 
-    ghost invariant = { λ o. IsSettled o.stage };
+    ghost invariant = { λ o. IsNotMoving o.stage };
 }
 
 impl Owner {
