@@ -40,8 +40,8 @@ fn finished_of(
         hop: hop_in(read.step.value),
         first: whole.get(first)?.number,
         last: read.number,
-        lo: trace.at(whole.first()?.number).done() as u64,
-        hi: trace.at(whole.last()?.number).begun() as u64,
+        lo: trace.at(whole.first()?.number).updates_done() as u64,
+        hi: trace.at(whole.last()?.number).updates_begun() as u64,
     })
 }
 
@@ -102,8 +102,8 @@ pub fn is_legal(
 ) -> bool {
     for made in seen.first..=seen.last.min(steps.len()) {
         let now = Moment::new(initial, steps, made);
-        let is_by_either = is_by_version(initial, versions, now.done(), seen)
-            || is_by_version(initial, versions, now.begun(), seen);
+        let is_by_either = is_by_version(initial, versions, now.updates_done(), seen)
+            || is_by_version(initial, versions, now.updates_begun(), seen);
         if is_by_either {
             return true;
         }

@@ -83,12 +83,12 @@ impl<'a> Moment<'a> {
     }
 
     /// How many updates are done.
-    pub(crate) fn done(self) -> usize {
+    pub(crate) fn updates_done(self) -> usize {
         self.bumps() / 2
     }
 
     /// How many updates are begun.
-    pub(crate) fn begun(self) -> usize {
+    pub(crate) fn updates_begun(self) -> usize {
         self.bumps().saturating_add(1) / 2
     }
 
@@ -119,8 +119,8 @@ impl<'a> Moment<'a> {
     /// update that runs, and that of the updates begun from that store on.
     pub(crate) fn version(self, addr: u32) -> usize {
         if self.has_turned(addr) {
-            return self.begun();
+            return self.updates_begun();
         }
-        self.done()
+        self.updates_done()
     }
 }

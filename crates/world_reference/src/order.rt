@@ -17,8 +17,8 @@ fn keeps_or_turns(now: Moment<'_>, versions: &Versions, addr: u32) -> bool {
         return true;
     }
     !now.has_turned(addr)
-        && is_answer(now.initial, versions, now.done(), addr, old)
-        && is_answer(now.initial, versions, now.begun(), addr, new)
+        && is_answer(now.initial, versions, now.updates_done(), addr, old)
+        && is_answer(now.initial, versions, now.updates_begun(), addr, new)
 }
 
 /// Whether the next step stands in an update, and each address keeps its answer or turns.
@@ -36,7 +36,7 @@ fn all_keep_or_turn(now: Moment<'_>, versions: &Versions) -> bool {
 
 /// Whether each address has the answer of the version begun.
 fn all_have_turned(now: Moment<'_>, versions: &Versions) -> bool {
-    let version = now.begun();
+    let version = now.updates_begun();
     for addr in 0..=now.initial.last_address() {
         if !is_answer(now.initial, versions, version, addr, now.answer(addr)) {
             return false;
@@ -56,7 +56,7 @@ fn may_bump_sequence(now: Moment<'_>, versions: &Versions) -> bool {
     if now.is_updating() {
         return all_have_turned(now, versions);
     }
-    now.begun().saturating_add(1) < versions.len()
+    now.updates_begun().saturating_add(1) < versions.len()
 }
 
 /// Whether this step may come next, as the writer has come so far.

@@ -5,6 +5,7 @@ use super::asserts::{WORKER, WRITER, assert_at};
 use lpm_trace::{Deed, Kind, Step};
 use std::alloc::{AllocError, Global};
 use std::process::Abort;
+use test_support::words::GROUP;
 use world_reference::{
     FinishedLookup, InitialState, PlainRule, Versions, deeds_are_done, deeds_are_sound, is_legal,
     loads_are_stores, lookups, never_falls, reuse_is_lawful, writes_in_order,
@@ -176,9 +177,6 @@ const SMALL: InitialState = InitialState {
     workers: 1,
     first_token: 1,
 };
-
-/// The word of group 0.
-const GROUP: u64 = 0x0300_0000;
 
 /// The word of next hop 5, of a prefix of two bits.
 const FIVE: u64 = 0x0900_0005;

@@ -2,10 +2,10 @@
 //! an add that takes a group again; and planted faults in it.
 
 use super::{
-    Decider, FIVE, Fault, GROUP, OF_TWO, OF_ZERO, Row, SEVEN, Subject, WRITER, assert_all,
-    assert_rows,
+    Decider, FIVE, Fault, OF_TWO, OF_ZERO, Row, SEVEN, Subject, WRITER, assert_all, assert_rows,
 };
 use lpm_trace::{Actor, Deed, Kind, Step};
+use test_support::words::GROUP;
 use world_reference::{InitialState, PlainRule};
 
 /// Four addresses, in two blocks of two, two groups and two workers.
