@@ -9,6 +9,5 @@ mod parts;
 mod replay;
 
 pub use fib::Fib;
-pub use lpm_writer::OpenError;
 pub use parts::{control_of_blocks, sorted_rules};
 pub use replay::Replay;

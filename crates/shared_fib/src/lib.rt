@@ -29,8 +29,6 @@ pub use grace::{GracePeriod, Held, NotStarted};
 pub use initial::{go_live, open};
 pub use initial_rules::open_sorted;
 use initial_table::InitialTable;
-pub use lpm_rules::Answer;
-pub use lpm_writer::{Exhausted, OpenError};
 use pairs::Pairs;
 pub use pass::{FourHops, Pass};
 use shared_memory::SharedMemory;
