@@ -3,6 +3,7 @@
 #![tactic(auto)]
 
 mod edits;
+mod figures;
 mod many;
 mod meeting;
 pub mod plans;
@@ -12,6 +13,7 @@ mod rule_lists;
 pub mod words;
 
 pub use edits::Edit;
+pub use figures::{Figures, figures_with};
 pub use many::{MANY, MANY_LIMITS, block, many_plain, many_rules, second_half};
 pub use meeting::Meeting;
 pub use routes::{

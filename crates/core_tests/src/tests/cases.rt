@@ -2,9 +2,8 @@
 //! opened, what comes of each, and after the last command the counts and what lookups find. The
 //! expected values were worked out by hand.
 
-use super::table::Figures;
 use lpm_limits::Config;
-use test_support::USUAL;
+use test_support::{Figures, USUAL};
 
 /// A worked case of IPv4.
 #[derive(Clone, Copy)]

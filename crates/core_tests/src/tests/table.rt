@@ -6,7 +6,6 @@ use fib::{Fib, Replay};
 use fib_model::{Order, Outcome};
 use fib_reference::{Account, account_of};
 use lpm_bits::{Hop, Shape};
-use lpm_groups::Counts;
 use lpm_limits::{BadConfig, Busy, Config, Refusal};
 use lpm_rules::{Put, Rule};
 use lpm_writer::OpenError;
@@ -16,23 +15,9 @@ use std::net::Ipv4Addr;
 use std::process::Abort;
 use std::test::Fail;
 use test_support::{
-    DEFAULT_HOP, FOUR, FOUR_HOPS, FOUR_NUMBERS, Row, THREE, USUAL, draw, hop, hop_number, limits,
-    other_hop, prefix, rule_of,
+    DEFAULT_HOP, FOUR, FOUR_HOPS, FOUR_NUMBERS, Figures, Row, THREE, USUAL, draw, figures_with,
+    hop, hop_number, limits, other_hop, prefix, rule_of,
 };
-
-/// The rules, versions, groups in use, groups in limbo, free groups and the token number.
-pub(crate) type Figures = (usize, u64, usize, usize, usize, u64);
-
-fn figures_with(rules: usize, versions: u64, counts: Counts, token: u64) -> Figures {
-    (
-        rules,
-        versions,
-        counts.in_use,
-        counts.limbo,
-        counts.free,
-        token,
-    )
-}
 
 pub(crate) fn figures<const FIRST: u32, const SECOND: u32>(fib: &Fib<FIRST, SECOND>) -> Figures {
     figures_with(fib.rules(), fib.versions(), fib.counts(), fib.token())

@@ -3,12 +3,11 @@ ghost use Rattle.std.specs.Prelude.{◌≡◌};
 ghost use Rattle.lpm_bits.specs.Widths.{IsShape};
 
 use super::asserts::assert_at;
-use lpm_groups::Counts;
 use lpm_limits::Config;
 use lpm_rules::Rule;
 use shared_fib::{SharedTable, Writer};
 use std::process::Abort;
-use test_support::{Change, Plain, USUAL, rule_of};
+use test_support::{Change, Figures, Plain, USUAL, figures_with, rule_of};
 
 pub(crate) type Ipv4Table = SharedTable<24, 8>;
 
@@ -44,13 +43,6 @@ pub(crate) fn change<const FIRST: u32, const SECOND: u32>(
     }
 }
 
-/// The rules, the versions and the token; the groups in use, in limbo and free.
-pub(crate) type Figures = ((usize, u64, u64), (usize, usize, usize));
-
-pub(crate) fn groups(counts: Counts) -> (usize, usize, usize) {
-    (counts.in_use, counts.limbo, counts.free)
-}
-
 pub(crate) fn figures<const FIRST: u32, const SECOND: u32>(
     table: &SharedTable<FIRST, SECOND>,
     writer: &mut Writer<FIRST, SECOND>,
@@ -58,6 +50,10 @@ pub(crate) fn figures<const FIRST: u32, const SECOND: u32>(
     requires own { writer.old.identity ≡ table.now }
     ensures own { writer.new.identity ≡ writer.old.identity }
 {
-    let sizes = (writer.rules(), writer.versions(), writer.token(table));
-    (sizes, groups(writer.counts()))
+    figures_with(
+        writer.rules(),
+        writer.versions(),
+        writer.counts(),
+        writer.token(table),
+    )
 }

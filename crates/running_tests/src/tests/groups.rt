@@ -3,15 +3,15 @@
 ghost use Rattle.std.specs.Prelude.{◌≡◌, ◌<◌, true, false};
 
 use super::asserts::assert_at;
-use super::changes::{Figures, SMALL, SmallTable, SmallWriter, change, figures, groups};
+use super::changes::{SMALL, SmallTable, SmallWriter, change, figures};
 use fib::Fib;
 use lpm_rules::Rule;
 use shared_fib::{Pass, open};
 use std::alloc::Global;
 use std::process::Abort;
 use test_support::{
-    ADDED, COLLAPSE, Change, DEFAULT_UNDER_A_GROUP, Plain, RuleEdit, UNDER_A_GROUP, hop_number,
-    rule_of,
+    ADDED, COLLAPSE, Change, DEFAULT_UNDER_A_GROUP, Figures, Plain, RuleEdit, UNDER_A_GROUP,
+    figures_with, hop_number, rule_of,
 };
 
 // The first and the last of some addresses, and the number of the next hop of each.
@@ -33,13 +33,13 @@ struct Case {
 
 // The rule of a whole block.
 const COVERED: Stage = Stage {
-    figures: ((1, 1, 1), (0, 0, 1)),
+    figures: (1, 1, 0, 0, 1, 1),
     spans: &[(0x10, 0x1f, 7)],
 };
 
 // And that of an address in it, which takes the group.
 const LINKED: Stage = Stage {
-    figures: ((2, 2, 1), (1, 0, 0)),
+    figures: (2, 2, 1, 0, 0, 1),
     spans: &[(0x10, 0x11, 7), (0x12, 0x12, 5), (0x13, 0x1f, 7)],
 };
 
@@ -49,7 +49,7 @@ const OTHER_COVER: Case = Case {
         COVERED,
         LINKED,
         Stage {
-            figures: ((2, 3, 1), (1, 0, 0)),
+            figures: (2, 3, 1, 0, 0, 1),
             spans: &[(0x10, 0x11, 3), (0x12, 0x12, 5), (0x13, 0x1f, 3)],
         },
     ],
@@ -61,7 +61,7 @@ const COLLAPSED: Case = Case {
         COVERED,
         LINKED,
         Stage {
-            figures: ((3, 3, 1), (1, 0, 0)),
+            figures: (3, 3, 1, 0, 0, 1),
             spans: &[
                 (0x10, 0x11, 6),
                 (0x12, 0x12, 5),
@@ -70,11 +70,11 @@ const COLLAPSED: Case = Case {
             ],
         },
         Stage {
-            figures: ((2, 4, 1), (1, 0, 0)),
+            figures: (2, 4, 1, 0, 0, 1),
             spans: &[(0x10, 0x13, 6), (0x14, 0x1f, 7)],
         },
         Stage {
-            figures: ((1, 5, 2), (0, 1, 0)),
+            figures: (1, 5, 0, 1, 0, 2),
             spans: &[(0x10, 0x1f, 7)],
         },
     ],
@@ -84,11 +84,11 @@ const DEFAULT_RULE: Case = Case {
     edits: DEFAULT_UNDER_A_GROUP,
     stages: &[
         Stage {
-            figures: ((1, 1, 1), (1, 0, 0)),
+            figures: (1, 1, 1, 0, 0, 1),
             spans: &[(0x12, 0x12, 5)],
         },
         Stage {
-            figures: ((2, 2, 1), (1, 0, 0)),
+            figures: (2, 2, 1, 0, 0, 1),
             spans: &[(0x00, 0x11, 9), (0x12, 0x12, 5), (0x13, 0xff, 9)],
         },
     ],
@@ -104,19 +104,19 @@ const SECOND_HALF: Case = Case {
     ],
     stages: &[
         Stage {
-            figures: ((1, 1, 1), (1, 0, 0)),
+            figures: (1, 1, 1, 0, 0, 1),
             spans: &[(0x10, 0x17, 1)],
         },
         Stage {
-            figures: ((2, 2, 1), (1, 0, 0)),
+            figures: (2, 2, 1, 0, 0, 1),
             spans: &[(0x10, 0x17, 1), (0x18, 0x1f, 2)],
         },
         Stage {
-            figures: ((1, 3, 1), (1, 0, 0)),
+            figures: (1, 3, 1, 0, 0, 1),
             spans: &[(0x18, 0x1f, 2)],
         },
         Stage {
-            figures: ((0, 4, 2), (0, 1, 0)),
+            figures: (0, 4, 0, 1, 0, 2),
             spans: &[],
         },
     ],
@@ -141,8 +141,7 @@ fn change_fib(rt: &impl Abort, fib: &mut Fib<4, 4>, edit: RuleEdit, stage: &Stag
         Change::Add(put) => assert_at(rt, plain, fib.add(&prefix, hop), Ok(put)),
         Change::Delete => assert_at(rt, plain, fib.delete(&prefix), Ok(hop)),
     }
-    let sizes = (fib.rules(), fib.versions(), fib.token());
-    let found = (sizes, groups(fib.counts()));
+    let found = figures_with(fib.rules(), fib.versions(), fib.counts(), fib.token());
     assert_at(rt, plain, found, stage.figures);
 }
 
@@ -189,7 +188,7 @@ fn look_up_by_pass(
     ensures own { pass.new.table ≡ pass.old.table }
     ensures online { pass.new.online ≡ true }
 {
-    let ((_, version, _), _) = stage.figures;
+    let (_, version, _, _, _, _) = stage.figures;
     for addr in 0..256u32 {
         let answer = pass.lookup(table, addr);
         let found = (hop_number(answer.hop), answer.lo, answer.hi);

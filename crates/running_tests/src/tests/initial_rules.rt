@@ -51,19 +51,14 @@ fn play(rt: &impl Abort, table: &Ipv4Table, writer: &mut Ipv4Writer, pass: &mut 
     requires writer { writer.old.identity ≡ table.now }
     requires pass { (pass.old.table ≡ table.now) × (pass.old.online ≡ false) }
 {
-    assert_at(rt, "opened", figures(table, writer), ((4, 0, 7), (1, 0, 1)));
+    assert_at(rt, "opened", figures(table, writer), (4, 0, 1, 0, 1, 7));
     assert_at(rt, "config", writer.limits(), LIMITS);
     let twice = rule_of::<24, 8>((0x0a01_0000, 16, 4)).expect(rt, "a rule");
     assert_at(rt, "twice", writer.get(&twice.prefix), Some(twice.hop));
     pass.online(table);
     assert_rows(rt, table, pass, 0, &HOPS);
     assert_steps(rt, table, writer, pass);
-    assert_at(
-        rt,
-        "changed",
-        figures(table, writer),
-        ((5, 8, 8), (2, 0, 0)),
-    );
+    assert_at(rt, "changed", figures(table, writer), (5, 8, 2, 0, 0, 8));
 }
 
 #[test]

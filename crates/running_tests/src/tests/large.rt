@@ -50,7 +50,7 @@ fn look_first_halves_up(rt: &impl Abort, table: &Ipv4Table, pass: &mut Pass)
 fn assert_figures(rt: &impl Abort, table: &Ipv4Table, writer: &mut Ipv4Writer, versions: u64)
     requires own { writer.old.identity ≡ table.now }
 {
-    let wanted = ((300_000, versions, 1), (30_000, 0, 35_536));
+    let wanted = (300_000, versions, 30_000, 0, 35_536, 1);
     assert_at(rt, "figures", figures(table, writer), wanted);
 }
 
