@@ -9,6 +9,8 @@ use lpm_cells::Entry;
 pub(crate) enum Kind {
     Add,
     Delete,
+    /// No update is made with it, since a flush asks of each word only whether it is a miss. What a flush
+    /// comes to is said by it.
     Flush,
 }
 
