@@ -3,7 +3,7 @@
 ghost use Rattle.std.specs.Prelude.{◌≡◌, Option, Some, None, MatchOption, MatchResult};
 ghost use Rattle.saxiko_c.specs.Status.{no_memory};
 
-use crate::loose::Loose;
+use crate::raw_box::RawBox;
 use crate::status::ENOMEM;
 use std::alloc::Global;
 use std::mem;
@@ -18,12 +18,12 @@ pub(crate) trait Handle: Sized + Drop {
     fn closed(alloc: Global) -> Self
         ensures { Self.kept result ≡ None };
 
-    fn of(loose: Loose<Self::Held, Global>) -> Self
-        ensures { Self.kept result ≡ Some loose.value };
+    fn of(raw_box: RawBox<Self::Held, Global>) -> Self
+        ensures { Self.kept result ≡ Some raw_box.value };
 
-    fn into_loose(self) -> Option<Loose<Self::Held, Global>>
+    fn into_raw_box(self) -> Option<RawBox<Self::Held, Global>>
         ensures { MatchOption result (Self.kept self ≡ None)
-            (λ loose. Self.kept self ≡ Some loose.value) };
+            (λ raw_box. Self.kept self ≡ Some raw_box.value) };
 }
 
 /// Takes what the handle holds out of it; it is closed then.
@@ -32,8 +32,8 @@ pub(crate) fn take<H: Handle>(alloc: Global, handle: &mut H) -> Option<Box<H::He
     ensures out { MatchOption result (H.kept handle.old ≡ None) (λ b. H.kept handle.old ≡ Some b.value) }
     ensures closed { H.kept handle.new ≡ None }
 {
-    match mem::replace(handle, H::closed(alloc)).into_loose() {
-        Some(loose) => Some(loose.into_box()),
+    match mem::replace(handle, H::closed(alloc)).into_raw_box() {
+        Some(raw_box) => Some(raw_box.into_box()),
         None => None,
     }
 }
@@ -44,7 +44,7 @@ pub(crate) fn put<H: Handle>(handle: &mut H, held: Box<H::Held>)
     ensures { H.kept handle.new ≡ Some held.value }
 {
     // What was there is a closed handle, which has nothing to free.
-    mem::forget(mem::replace(handle, H::of(Loose::of(held))));
+    mem::forget(mem::replace(handle, H::of(RawBox::of(held))));
 }
 
 /// A box with this value; `ENOMEM` where there is no memory for one.

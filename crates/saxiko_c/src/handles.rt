@@ -7,8 +7,8 @@ ghost use Rattle.saxiko_c.specs.RunningTable.{StagedOwner};
 ghost use Rattle.saxiko_c.specs.OwnedTables.{coded_reader_kept, coded_table_kept, coded_writer_kept, handle_owns, reader_row, table_row, writer_row};
 
 use crate::handle::Handle;
-use crate::loose::Loose;
 use crate::owner::Owner;
+use crate::raw_box::RawBox;
 use fib::Fib;
 use saxiko::Reader;
 use std::alloc::Global;
@@ -42,10 +42,10 @@ impl Handle for SaxikoTable {
         }
     }
 
-    fn of(loose: Loose<Fib<24, 8>, Global>) -> Self
-        ensures { result.kept ≡ Some loose.value }
+    fn of(raw_box: RawBox<Fib<24, 8>, Global>) -> Self
+        ensures { result.kept ≡ Some raw_box.value }
     {
-        let Loose { at, alloc } = loose;
+        let RawBox { at, alloc } = raw_box;
         SaxikoTable {
             at: at as *mut u8,
             is_open: true,
@@ -53,10 +53,10 @@ impl Handle for SaxikoTable {
         }
     }
 
-    fn into_loose(self) -> Option<Loose<Fib<24, 8>, Global>> {
+    fn into_raw_box(self) -> Option<RawBox<Fib<24, 8>, Global>> {
         let SaxikoTable { at, is_open, alloc } = self;
         if is_open {
-            Some(Loose {
+            Some(RawBox {
                 at: at as *mut Fib<24, 8>,
                 alloc,
             })
@@ -68,8 +68,8 @@ impl Handle for SaxikoTable {
 
 impl Drop for SaxikoTable {
     fn drop(self) {
-        if let Some(loose) = self.into_loose() {
-            drop(loose.into_box());
+        if let Some(raw_box) = self.into_raw_box() {
+            drop(raw_box.into_box());
         }
     }
 }
@@ -103,10 +103,10 @@ impl Handle for SaxikoWriter {
         }
     }
 
-    fn of(loose: Loose<Owner, Global>) -> Self
-        ensures { result.kept ≡ Some loose.value }
+    fn of(raw_box: RawBox<Owner, Global>) -> Self
+        ensures { result.kept ≡ Some raw_box.value }
     {
-        let Loose { at, alloc } = loose;
+        let RawBox { at, alloc } = raw_box;
         SaxikoWriter {
             at: at as *mut u8,
             is_open: true,
@@ -114,10 +114,10 @@ impl Handle for SaxikoWriter {
         }
     }
 
-    fn into_loose(self) -> Option<Loose<Owner, Global>> {
+    fn into_raw_box(self) -> Option<RawBox<Owner, Global>> {
         let SaxikoWriter { at, is_open, alloc } = self;
         if is_open {
-            Some(Loose {
+            Some(RawBox {
                 at: at as *mut Owner,
                 alloc,
             })
@@ -129,8 +129,8 @@ impl Handle for SaxikoWriter {
 
 impl Drop for SaxikoWriter {
     fn drop(self) {
-        if let Some(loose) = self.into_loose() {
-            drop(loose.into_box());
+        if let Some(raw_box) = self.into_raw_box() {
+            drop(raw_box.into_box());
         }
     }
 }
@@ -164,10 +164,10 @@ impl Handle for SaxikoReader {
         }
     }
 
-    fn of(loose: Loose<Reader, Global>) -> Self
-        ensures { result.kept ≡ Some loose.value }
+    fn of(raw_box: RawBox<Reader, Global>) -> Self
+        ensures { result.kept ≡ Some raw_box.value }
     {
-        let Loose { at, alloc } = loose;
+        let RawBox { at, alloc } = raw_box;
         SaxikoReader {
             at: at as *mut u8,
             is_open: true,
@@ -175,10 +175,10 @@ impl Handle for SaxikoReader {
         }
     }
 
-    fn into_loose(self) -> Option<Loose<Reader, Global>> {
+    fn into_raw_box(self) -> Option<RawBox<Reader, Global>> {
         let SaxikoReader { at, is_open, alloc } = self;
         if is_open {
-            Some(Loose {
+            Some(RawBox {
                 at: at as *mut Reader,
                 alloc,
             })
@@ -190,8 +190,8 @@ impl Handle for SaxikoReader {
 
 impl Drop for SaxikoReader {
     fn drop(self) {
-        if let Some(loose) = self.into_loose() {
-            drop(loose.into_box());
+        if let Some(raw_box) = self.into_raw_box() {
+            drop(raw_box.into_box());
         }
     }
 }

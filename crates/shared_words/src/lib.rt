@@ -13,9 +13,9 @@
 mod address;
 mod four_addresses;
 mod initial;
-mod law;
 mod layout;
 mod reports;
+mod trace_rule;
 mod view;
 mod words;
 mod worker;

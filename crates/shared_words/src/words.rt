@@ -7,8 +7,8 @@ ghost use Rattle.shared_words.specs.Rule.{writer_view};
 ghost use Rattle.shared_words.specs.Seats.{IsOf};
 
 use crate::initial::InitialContent;
-use crate::law::Board;
 use crate::layout::Layout;
+use crate::trace_rule::Board;
 use crate::writer::WriterSeat;
 use atomic_table::Table;
 use std::alloc::{AllocError, Global};

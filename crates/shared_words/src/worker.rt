@@ -10,11 +10,11 @@ ghost use Rattle.shared_words.specs.Layout.{initial_state_of};
 ghost use Rattle.shared_words.specs.Seats.{IsOf, IsSound, Gains, IsFirstAt, IsSecondAt};
 
 use crate::initial::InitialContent;
-use crate::law::{
+use crate::layout::{Layout, first_at, half};
+use crate::trace_rule::{
     Compares, EndsLookup, Hears, LoadsOnline, LoadsQuiescent, Meeting, Notes, Place, StoresOffline,
     StoresOnline, StoresQuiescent, load_as,
 };
-use crate::layout::{Layout, first_at, half};
 use crate::words::SharedWords;
 use crate::writer::WriterSeat;
 use std::marker::{Brand, Model};

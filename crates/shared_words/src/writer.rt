@@ -6,8 +6,8 @@ ghost use Rattle.shared_words.specs.Rule.{with_one_more, worker_view};
 ghost use Rattle.shared_words.specs.Seats.{IsOf, AreLawful, MayFollow, state_of_view, with_step};
 
 use crate::initial::InitialContent;
-use crate::law::{BumpsToken, EndsUpdate, Looks, NextWorker, Place, load_as, store_as};
 use crate::layout::{Layout, first_at, half, with_half};
+use crate::trace_rule::{BumpsToken, EndsUpdate, Looks, NextWorker, Place, load_as, store_as};
 use crate::words::SharedWords;
 use crate::worker::WorkerSeat;
 use lpm_trace::RuleChange;

@@ -2,12 +2,12 @@
 //! changes the table on another. Then every answer is held against the versions of the rules.
 #![tactic(auto)]
 
-mod engine;
 mod plan;
 mod results;
 mod threads;
+mod whole_storm;
 mod workers;
 mod writer;
 
-pub use engine::run;
 pub use plan::{MOST_ANSWERS, Plan, StormError};
+pub use whole_storm::run;

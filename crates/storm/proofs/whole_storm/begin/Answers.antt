@@ -1,6 +1,6 @@
 use Rattle.storm.proofs.Logs.{first_rules, made_none}
 use Rattle.lpm_rules.specs.RuleMap.{rules_of}
-use Rattle.storm.proofs.engine.begin.Goals as goal
+use Rattle.storm.proofs.whole_storm.begin.Goals as goal
 
 pub returns-clause-made : goal.returns-clause-made
 returns-clause-made g c =

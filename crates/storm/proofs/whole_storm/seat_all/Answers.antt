@@ -5,7 +5,7 @@ use Rattle.storm.specs.declared.workers.Worker.{Worker}
 use Rattle.bulk.proofs.Meetings.{one_more_seated}
 use Rattle.storm.proofs.Meetings.{each_push, stays_unused}
 use Rattle.std.proofs.lemmas.Grind.{common_steps}
-use Rattle.storm.proofs.engine.seat_all.Goals as goal
+use Rattle.storm.proofs.whole_storm.seat_all.Goals as goal
 
 pub loop-number-init : goal.loop-number-init
 loop-number-init g c = record {

@@ -1,7 +1,7 @@
 use Rattle.std.proofs.Common.{◌≡◌, ℕ, ◌<◌, ◌≤◌, All, vec_len, vec_capacity, slice_get, Some, None}
 use Rattle.shared_fib.specs.Passes.{IsBenchOf}
 use Rattle.storm.specs.Workers.{AreInSeats, IsReadyFor, IsUnused}
-use Rattle.storm.proofs.engine.seat_all.Given as goal
+use Rattle.storm.proofs.whole_storm.seat_all.Given as goal
 
 -- the workers so far are seated, and the passes of the others wait at the bench
 abbrev pub invariant-loop-number : goal.invariant-loop-number

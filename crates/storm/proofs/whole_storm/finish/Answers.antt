@@ -14,7 +14,7 @@ use Rattle.storm.specs.Storm.{Settles}
 use Rattle.storm.proofs.PassAnswers.{addresses_of, all_held, all_looked, all_of_addresses, all_right, all_times, count_all}
 use Rattle.storm.proofs.Versions.{changes_behind, changes_within, first_version, none_wrong, rules_within, settled_versions}
 use Rattle.storm.proofs.Meetings.{of_workers, passes_of}
-use Rattle.storm.proofs.engine.finish.Goals as goal
+use Rattle.storm.proofs.whole_storm.finish.Goals as goal
 
 pub returns-in_default-clause-failure : goal.returns-in_default-clause-failure
 returns-in_default-clause-failure g c =

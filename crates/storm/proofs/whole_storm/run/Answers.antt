@@ -8,7 +8,7 @@ use Rattle.storm.specs.Writer.{HasMade}
 use Rattle.storm.specs.Storm.{HasMadeAll}
 use Rattle.bulk.specs.Desks.{IsAtBench}
 use Rattle.storm.proofs.Meetings.{all_seated}
-use Rattle.storm.proofs.engine.run.Goals as goal
+use Rattle.storm.proofs.whole_storm.run.Goals as goal
 
 pub seat_stuck-stuck-requires : goal.seat_stuck-stuck-requires
 seat_stuck-stuck-requires g c =
