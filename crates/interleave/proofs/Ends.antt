@@ -11,7 +11,7 @@ use Rattle.lpm_trace.specs.Trace.{writes, worker_of, IsTrace, worker_by_step, Fi
 use Rattle.interleave.specs.World.{HasEnded as ActorHasEnded, IsScheduled, writer_items, IsInitial, IsPlayedOut, WorldDid, Reaches, scripts_and_schedule, WorldDoes}
 use Rattle.interleave.specs.View.{script_at, WorldView}
 use Rattle.lpm_writer.specs.Commands.{Rests}
-use Rattle.lpm_writer.specs.Rest.{blank_state, state_of}
+use Rattle.lpm_writer.specs.Rest.{blank_initial_state, state_of}
 use Rattle.interleave.specs.declared.trace.Trace.{Trace}
 use Rattle.interleave.specs.Runs.{StateBySteps, HasTokensLeft, Waits, Answers, AgreesWithSteps, IsPerformed, IsRun, initial_state_by_steps, HaveComeOut, InitialStatesAreSettled, RunsAreLawful}
 use Rattle.std.proofs.lemmas.Bool.{cases_lt}
@@ -39,7 +39,7 @@ use Rattle.lpm_writer.proofs.Initial.{settled}
 use Rattle.interleave.specs.Laws.{TracesAreLawful}
 use Rattle.lpm_update.proofs.Promises.{blank}
 
-pub opens : (f s : ℕ) (config : Config) (workers : ℕ) → workers ≡ config.workers → IsInitial f s config.groups workers config.first_token (blank_state f s config)
+pub opens : (f s : ℕ) (config : Config) (workers : ℕ) → workers ≡ config.workers → IsInitial f s config.groups workers config.first_token (blank_initial_state f s config)
 opens f s config workers as_many = record {
   first_bits = refl;
   second_bits = refl;
@@ -58,11 +58,11 @@ nothing_yet rules limbo begun r l b =
 
 pub run_ends : (f s : ℕ) (config : Config) (script : List (Change f s)) (scripts : List (List Deed)) → length scripts ≡ config.workers → (schedule : List Actor)
     (steps : List WriterStep) (shown : Trace)
-    → IsPerformed (blank_state f s config) f s config (writer_items schedule) initial_state_by_steps script shown.replies.items steps
-    → IsPlayedOut (blank_state f s config) scripts schedule steps shown.steps.items shown.lookups.items
+    → IsPerformed (blank_initial_state f s config) f s config (writer_items schedule) initial_state_by_steps script shown.replies.items steps
+    → IsPlayedOut (blank_initial_state f s config) scripts schedule steps shown.steps.items shown.lookups.items
     → IsRun f s config script (script_at scripts) schedule shown
 run_ends f s config script scripts as_many schedule steps shown performed played =
-    let c = blank_state f s config in
+    let c = blank_initial_state f s config in
     record {
       steps = played.trace;
       beyond = played.beyond;
@@ -263,7 +263,7 @@ traces_are_lawful c steps start trace = record {
   versions = λ a t u later. versions_never_fall c steps a t u later;
 }
 
-initial_agrees : (f g : ℕ) (config : Config) → AgreesWithSteps f g (blank_state f g config) initial_state_by_steps
+initial_agrees : (f g : ℕ) (config : Config) → AgreesWithSteps f g (blank_initial_state f g config) initial_state_by_steps
 initial_agrees f g config = record {
   begun = refl;
   rules = refl;
@@ -293,7 +293,7 @@ last_agrees c f g config n initial (entry ∷ log) last rest h = h.4.1
 
 pub runs_are_lawful : RunsAreLawful
 runs_are_lawful f g config script scripts schedule shown limits run =
-    let c = blank_state f g config in (
+    let c = blank_initial_state f g config in (
       traces_are_lawful c run.steps (settled f g config limits) (older_trace c (map Writer run.beyond) run.steps run.trace.may_come),
       λ worker. ap (seen_of worker) run.shows_lookups ∙ seen_finished worker run.steps,
       last_agrees c f g config (writer_items schedule) initial_state_by_steps run.trace.performed.log run.trace.performed.last (initial_agrees f g config) run.trace.performed.answered,

@@ -16,7 +16,7 @@ use Rattle.fib_model.specs.Outcomes.{Adds, Deletes, Flushes, Frees}
 use Rattle.lpm_rules.specs.RuleMap.{RuleList}
 use Rattle.lpm_writer.specs.declared.pool.GroupPool.{GroupPool}
 use Rattle.lpm_writer.specs.Steps.{by_steps_from, AreStopped, Synchronizes, StoresOnce}
-use Rattle.lpm_writer.specs.Rest.{state_of, blank_state}
+use Rattle.lpm_writer.specs.Rest.{state_of, blank_initial_state}
 use Rattle.lpm_writer.specs.GroupsMatch.{IsLimbo}
 use Rattle.interleave.specs.declared.reply.Reply.{Reply}
 use Rattle.interleave.specs.declared.reply.Reply.TheVariants.{Put, Deleted, Flushed, Reclaimed, Synchronized, Refused}
@@ -142,10 +142,10 @@ initial_state_by_steps = initial_with []
 pub record IsTraceOf (f g : ℕ) (config : Config) (script : List (Change f g))
     (scripts : ℕ → List Deed) (n : ℕ) (replies : List Reply) (beyond : List WriterStep)
     (steps : List TraceStep) : Type 0 where
-  pub may_come : IsTrace (blank_state f g config) (map Writer beyond ++ steps)
+  pub may_come : IsTrace (blank_initial_state f g config) (map Writer beyond ++ steps)
   pub scripted : AreScripted scripts steps
-  pub performed : IsPerformed (blank_state f g config) f g config n initial_state_by_steps script replies
-      (beyond ++ writes steps)
+  pub performed : IsPerformed (blank_initial_state f g config) f g config n initial_state_by_steps
+      script replies (beyond ++ writes steps)
 
 -- ---- the run
 
@@ -165,7 +165,7 @@ pub record IsRun (f g : ℕ) (config : Config) (script : List (Change f g))
       (HasEnded config.workers scripts (λ earlier. writes earlier ≡ beyond ++ writes steps))
       (reverse schedule) steps
   -- each step, and each finished lookup and no other
-  pub shows_steps : shown.steps.items ≡ all_shown (blank_state f g config) steps
+  pub shows_steps : shown.steps.items ≡ all_shown (blank_initial_state f g config) steps
   pub shows_lookups : shown.lookups.items ≡ all_seen steps
 
 -- ---- what holds of a run
@@ -179,7 +179,8 @@ ShowsFinished steps lookups = (worker : ℕ) → seen_of worker lookups
 -- keeps agrees with its steps, of which there are none
 abbrev pub InitialStatesAreSettled : Type 0
 InitialStatesAreSettled = (f g : ℕ) (config : Config) → IsConfig config
-    → IsSettled (blank_state f g config) × AgreesWithSteps f g (blank_state f g config) initial_state_by_steps
+    → IsSettled (blank_initial_state f g config)
+    × AgreesWithSteps f g (blank_initial_state f g config) initial_state_by_steps
 
 -- the steps of each run are lawful, it shows what its workers have finished, and after the last change
 -- that was answered what the writer keeps agrees with its steps: the groups linked are the blocks of its
@@ -188,6 +189,6 @@ abbrev pub RunsAreLawful : Type 0
 RunsAreLawful = (f g : ℕ) (config : Config) (script : List (Change f g)) (scripts : ℕ → List Deed)
     (schedule : List Actor) (shown : Trace) → IsConfig config
     → (run : IsRun f g config script scripts schedule shown)
-    → IsLawful (blank_state f g config) run.steps
+    → IsLawful (blank_initial_state f g config) run.steps
     × ShowsFinished run.steps shown.lookups.items
-    × AgreesWithSteps f g (blank_state f g config) run.trace.performed.last
+    × AgreesWithSteps f g (blank_initial_state f g config) run.trace.performed.last

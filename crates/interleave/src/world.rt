@@ -5,7 +5,7 @@ ghost use Rattle.std.specs.FinMap.{empty};
 ghost use Rattle.lpm_bits.specs.Widths.{IsShape};
 ghost use Rattle.lpm_limits.specs.Limits.{IsConfig};
 ghost use Rattle.interleave.specs.Scripts.{IsSound};
-ghost use Rattle.lpm_writer.specs.Rest.{blank_state, IsResting};
+ghost use Rattle.lpm_writer.specs.Rest.{blank_initial_state, IsResting};
 ghost use Rattle.interleave.specs.View.{script_at};
 ghost use Rattle.interleave.specs.declared.run_error.RunError.TheVariants.{BadConfig as IsBadConfig, Memory as IsMemory};
 ghost use Rattle.interleave.specs.Runs.{IsRun};
@@ -66,7 +66,7 @@ fn run_opened<const FIRST: u32, const SECOND: u32>(
     requires in_range { IsConfig control.old.config }
     requires workers { length scripts.now ≡ control.old.config.workers }
     requires sound { All (λ script. IsSound (2 ^ (FIRST + SECOND)) script.items) scripts.now }
-    requires rests { IsResting FIRST SECOND (blank_state FIRST SECOND control.old.config) []
+    requires rests { IsResting FIRST SECOND (blank_initial_state FIRST SECOND control.old.config) []
         control.old.config control.old.rules control.old.pool control.old.versions }
     requires rules { control.old.rules.rules ≡ empty }
     requires queue { control.old.pool.queue.items ≡ [] }

@@ -18,7 +18,7 @@ use Rattle.lpm_update.specs.Represents.{Represents}
 use Rattle.lpm_update.specs.GroupStates.{IsTied, HasGroupRoom}
 use Rattle.lpm_update.proofs.Promises.{best_hop, blank}
 use Rattle.lpm_trace.specs.States.{InitialState, Status, Unused, Linked as LinkedTo, Retired, IsFree, IsSettled}
-use Rattle.lpm_writer.specs.Rest.{IsResting, blank_state}
+use Rattle.lpm_writer.specs.Rest.{IsResting, blank_initial_state}
 use Rattle.std.specs.FinMap.{empty}
 use Rattle.lpm_groups.proofs.Marks.{limbo_count-replicate}
 use Rattle.lpm_update.specs.Laws.{blank_words}
@@ -108,7 +108,7 @@ free_at_first zero g state e = absurd cc
 free_at_first (suc n) zero state e = let same : Free ≡ state = cc in ap status_at_first same
 free_at_first (suc n) (suc g) state e = free_at_first n g state e
 
-pub settled : (f s : ℕ) (config : Config) → IsConfig config → IsSettled (blank_state f s config)
+pub settled : (f s : ℕ) (config : Config) → IsConfig config → IsSettled (blank_initial_state f s config)
 settled f s config limits =
     let new = blank f s (config.groups * 2 ^ s) config.groups in
     begins_settled f s (blank_words (2 ^ f) (config.groups * 2 ^ s)) (empty {R = network_cmp}) (replicate config.groups Free) config config.first_token (λ g. Unused) new.0 new.1
@@ -123,11 +123,11 @@ new_books c = record {
 }
 
 pub opened_rests : (f s : ℕ) (config : Config) → IsShape f s → IsConfig config
-    → IsResting f s (blank_state f s config) [] config (record { rules = empty {R = network_cmp}; max = config.rules }) (new_books config) 0
+    → IsResting f s (blank_initial_state f s config) [] config (record { rules = empty {R = network_cmp}; max = config.rules }) (new_books config) 0
 opened_rests f s config shape limits =
     let new = blank f s (config.groups * 2 ^ s) config.groups in
     let groups = length-replicate config.groups Free in
-    subst (λ n. IsResting f s (blank_state f s config) [] config (record { rules = empty {R = network_cmp}; max = config.rules })
+    subst (λ n. IsResting f s (blank_initial_state f s config) [] config (record { rules = empty {R = network_cmp}; max = config.rules })
     (record { groups = replicate config.groups Free; queue = record { items = []; capacity = n }; passed = 0 }) 0) groups
     (begins_resting f s (blank_words (2 ^ f) (config.groups * 2 ^ s)) (empty {R = network_cmp}) (replicate config.groups Free) config config.first_token (λ g. Unused) new.0 new.1
     (free_at_first config.groups) (λ g. unused_retired) config.rules shape limits refl groups

@@ -45,8 +45,8 @@ pub record Changes {X : Type 0} (t : Transitions X) (config : Config) (x : X) (o
 -- What a table is opened with (this project's).
 
 -- no rules, words that are all misses, and groups that were never linked
-abbrev pub blank_state : ℕ → ℕ → Config → InitialState
-blank_state first second config = record {
+abbrev pub blank_initial_state : ℕ → ℕ → Config → InitialState
+blank_initial_state first second config = record {
   first = first;
   second = second;
   workers = config.workers;

@@ -6,7 +6,7 @@ ghost use Rattle.lpm_bits.specs.Widths.{IsShape};
 ghost use Rattle.lpm_limits.specs.Limits.{IsConfig};
 ghost use Rattle.lpm_trace.specs.States.{IsSettled};
 ghost use Rattle.lpm_writer.specs.Plain.{PlainDid};
-ghost use Rattle.lpm_writer.specs.Rest.{blank_state, IsResting};
+ghost use Rattle.lpm_writer.specs.Rest.{blank_initial_state, IsResting};
 
 use super::{ControlState, GroupPool, OpenError};
 use crate::PlainMemory;
@@ -21,7 +21,7 @@ impl<const FIRST: u32, const SECOND: u32> ControlState<FIRST, SECOND> {
     /// `Memory` where there is no room for the groups.
     pub fn new(alloc: Global, config: Config) -> Result<Self, OpenError>
         requires shape { IsShape FIRST SECOND }
-        ensures rests { IfOk result (λ l. IsResting FIRST SECOND (blank_state FIRST SECOND config)
+        ensures rests { IfOk result (λ l. IsResting FIRST SECOND (blank_initial_state FIRST SECOND config)
             [] l.config l.rules l.pool l.versions) }
         ensures config { IfOk result (λ l. l.config ≡ config) }
         ensures in_range { IfOk result (λ _. IsConfig config) }
@@ -55,10 +55,10 @@ pub fn open_memory<const FIRST: u32, const SECOND: u32>(
     config: Config,
 ) -> Result<(ControlState<FIRST, SECOND>, PlainMemory<FIRST, SECOND>), OpenError>
     requires { IsShape FIRST SECOND }
-    ensures settled { IfOk result (λ _. IsSettled (blank_state FIRST SECOND config)) }
+    ensures settled { IfOk result (λ _. IsSettled (blank_initial_state FIRST SECOND config)) }
     ensures did { IfOk result (λ t. PlainDid FIRST SECOND t.1.cells t.1.domain
-        (blank_state FIRST SECOND config) []) }
-    ensures rests { IfOk result (λ t. IsResting FIRST SECOND (blank_state FIRST SECOND config) []
+        (blank_initial_state FIRST SECOND config) []) }
+    ensures rests { IfOk result (λ t. IsResting FIRST SECOND (blank_initial_state FIRST SECOND config) []
         t.0.config t.0.rules t.0.pool t.0.versions) }
     ensures domain { IfOk result (λ t. t.1.domain ≡ record {
       token = config.first_token;

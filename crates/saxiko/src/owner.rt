@@ -12,7 +12,7 @@ ghost use Rattle.lpm_rules.specs.RuleMap.{IsNextRule};
 ghost use Rattle.lpm_trace.specs.declared.step.WorkerStep.TheVariants.{MeetWriter};
 ghost use Rattle.lpm_trace.specs.Laws.{IsChecked};
 ghost use Rattle.lpm_writer.specs.GroupToFill.{HasWidths};
-ghost use Rattle.lpm_writer.specs.Rest.{blank_state};
+ghost use Rattle.lpm_writer.specs.Rest.{blank_initial_state};
 ghost use Rattle.lpm_writer.specs.Steps.{Synchronizes};
 ghost use Rattle.shared_fib.specs.FreedGroups.{TakesLeast, FreesChecked};
 ghost use Rattle.shared_words.specs.Rule.{IsLater};
@@ -102,7 +102,7 @@ impl Owner {
     /// range, and ends with `Memory` where there is no room for the words, the groups or the workers.
     pub fn open(alloc: Global, config: Config) -> Result<Self, OpenError>
         ensures initial { IfOk result
-            (λ owner. initial_state owner.writer.identity ≡ blank_state 24 8 config) }
+            (λ owner. initial_state owner.writer.identity ≡ blank_initial_state 24 8 config) }
         ensures opened { IfOk result
             (λ owner. owner.writer ≡ initial_writer owner.writer.identity config map.empty) }
         ensures token { IfOk result (λ owner. owner.writer.identity.initial.token ≡ config.first_token) }

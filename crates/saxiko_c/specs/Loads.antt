@@ -11,7 +11,7 @@ use Rattle.fib.specs.Fib.{FibState, initial_fib_with}
 use Rattle.saxiko_c.specs.Status.{OpensIt, no_memory, invalid, no_space, too_big, out_of_domain}
 use Rattle.saxiko_c.specs.Table.{IsBad}
 use Rattle.saxiko_c.specs.declared.records.SaxikoRoute.{SaxikoRoute}
-use Rattle.saxiko_c.specs.RunningTable.{StagedOwner, IsOpened}
+use Rattle.saxiko_c.specs.RunningTable.{StagedOwner, IsInitial}
 
 -- the rule that a route gives
 abbrev pub rule_of : SaxikoRoute → Rule 24 8
@@ -73,7 +73,7 @@ Loads c routes before after =
 abbrev pub IsLoadedRunning : Config → List SaxikoRoute → StagedOwner → Type 0
 IsLoadedRunning c routes o =
     AreReadable routes × AreSufficient 24 8 c (rules_of_routes routes)
-    × IsOpened c (rules_of_routes routes) o
+    × IsInitial c (rules_of_routes routes) o
 
 -- a closed handle has a table with the rules of the routes then; an open one stays as it is
 abbrev pub LoadsRunning : Config → List SaxikoRoute → ℕ → ℕ → Option StagedOwner → ℤ → Option StagedOwner → Type 0

@@ -16,7 +16,7 @@ use Rattle.defer_queue.specs.declared.Reclaimed.{Reclaimed}
 use Rattle.fib_model.specs.Outcomes.{groups_in_use}
 use Rattle.lpm_trace.specs.declared.step.WorkerStep.{WorkerStep}
 use Rattle.lpm_trace.specs.declared.step.WorkerStep.TheVariants.{LoadOnline, StoreOnline, LoadQuiescent, StoreQuiescent, StoreOffline}
-use Rattle.lpm_writer.specs.Rest.{blank_state}
+use Rattle.lpm_writer.specs.Rest.{blank_initial_state}
 use Rattle.shared_fib.specs.FreedGroups.{TakesLeast, FreesChecked}
 use Rattle.shared_fib.specs.Bursts.{LooksUpBurst, greatest, least}
 use Rattle.shared_words.specs.Rule.{IsLater}
@@ -43,7 +43,7 @@ coded_owner = code_by (WriterState × (Bool × List (Option PassState)))
 -- ---- the writer
 
 -- a table with these rules as version 0, of which no reader is handed out, and no grace period lasts
-pub record IsOpened (c : Config) (R : RuleMap) (o : StagedOwner) : Type 0 where
+pub record IsInitial (c : Config) (R : RuleMap) (o : StagedOwner) : Type 0 where
   pub opened : o.writer ≡ initial_writer o.writer.identity c R
   pub token : o.writer.identity.initial.token ≡ c.first_token
   pub workers : o.writer.identity.initial.workers ≡ c.workers
@@ -52,12 +52,13 @@ pub record IsOpened (c : Config) (R : RuleMap) (o : StagedOwner) : Type 0 where
   pub limits : IsConfig c
 
 -- such a table without rules, the words of which are all misses
-abbrev pub IsBlank : Config → StagedOwner → Type 0
-IsBlank c o = IsOpened c empty o × (initial_state o.writer.identity ≡ blank_state 24 8 c)
+abbrev pub IsInitialWithoutRules : Config → StagedOwner → Type 0
+IsInitialWithoutRules c o = IsInitial c empty o
+    × (initial_state o.writer.identity ≡ blank_initial_state 24 8 c)
 
 -- a closed handle has such a table then; an open one stays as it is
 abbrev pub Opens : Config → Option StagedOwner → ℤ → Option StagedOwner → Type 0
-Opens c = OpensIt (IsUnopened c) (IsBlank c) ⊤
+Opens c = OpensIt (IsUnopened c) (IsInitialWithoutRules c) ⊤
 
 -- the table's rules alone were changed, by steps that come after the earlier ones, and each group that was
 -- freed was checked after it was given up

@@ -4,7 +4,7 @@ ghost use Rattle.std.specs.Prelude.{◌≡◌, ⊤, MatchResult, true, false};
 ghost use Rattle.shared_fib.specs.RunningTable.{IsAtRest, hop_or, token_of};
 ghost use Rattle.saxiko_c.specs.Grace.{AsksAtRest, AtRest};
 ghost use Rattle.saxiko_c.specs.Loads.{IsLoadedRunning, IsUnloaded};
-ghost use Rattle.saxiko_c.specs.RunningTable.{AddsTo, Counts, DeletesFrom, Finds, FindsAllIn, FindsAllWithin, FindsBetween, FindsIn, FindsWithin, Flushes, FreesHeld, GivesBack, GoesOffline, GoesOnline, IsBlank, IsRegistered, IsUnregistered, Quiesces};
+ghost use Rattle.saxiko_c.specs.RunningTable.{AddsTo, Counts, DeletesFrom, Finds, FindsAllIn, FindsAllWithin, FindsBetween, FindsIn, FindsWithin, Flushes, FreesHeld, GivesBack, GoesOffline, GoesOnline, IsInitialWithoutRules, IsRegistered, IsUnregistered, Quiesces};
 ghost use Rattle.saxiko_c.specs.Table.{Gets, IsCounted, IsUnopened};
 
 use crate::bursts::{find_all, find_all_within};
@@ -24,7 +24,7 @@ use saxiko::Reader;
 use std::alloc::Global;
 
 pub(crate) fn open_owner(alloc: Global, config: Config) -> Result<Box<Owner>, i32>
-    ensures { MatchResult result (λ b. IsBlank config b.value) (IsUnopened config) }
+    ensures { MatchResult result (λ b. IsInitialWithoutRules config b.value) (IsUnopened config) }
 {
     match saxiko::Owner::open(alloc, config) {
         Ok(owner) => boxed(alloc, Owner::new(owner)),

@@ -26,14 +26,14 @@ use Rattle.defer_queue.specs.Limbo.{Limbo as Queue}
 use Rattle.lpm_writer.specs.declared.plain_memory.PlainMemory.{PlainMemory}
 use Rattle.lpm_writer.specs.declared.control.ControlState.{ControlState}
 use Rattle.lpm_writer.specs.Plain.{PlainDid}
-use Rattle.lpm_writer.specs.Rest.{blank_state, IsResting, state_of}
+use Rattle.lpm_writer.specs.Rest.{blank_initial_state, IsResting, state_of}
 use Rattle.lpm_writer.specs.Limbo.{tokens_of}
 use Rattle.fib.specs.Fib.{IsSound}
 use Rattle.shared_words.specs.declared.view.View.{View}
 use Rattle.shared_words.specs.Rule.{writer_view}
 use Rattle.shared_words.specs.Seats.{IsOf, WordsAt}
 use Rattle.shared_fib.specs.declared.initial_table.InitialTable.{InitialTable}
-use Rattle.shared_fib.specs.LoadedTable.{IsLoaded}
+use Rattle.shared_fib.specs.InitialTable.{IsInitialTable}
 use Rattle.shared_fib.specs.RunningTable.{Identity, WriterState, IsSoundWriter, initial_data_of, initial_writer}
 use Rattle.shared_fib.proofs.Live.{live_settled, live_rests}
 
@@ -160,7 +160,7 @@ module _ (f s : ℕ) (control : ControlState f s) (memory : PlainMemory f s) whe
     -- a running table may go on from it
     pub loaded_is : (config : Config) (queue : Queue) (l : InitialTable f s) → config ≡ control.config → queue ≡ control.pool.queue
         → l.rules ≡ control.rules → l.groups ≡ control.pool.groups → 0 < memory.domain.token
-        → memory.domain.token ≤ 2 ^ 62 → ArePacked loads l.words.items l.layout → IsLoaded f s config queue l
+        → memory.domain.token ≤ 2 ^ 62 → ArePacked loads l.words.items l.layout → IsInitialTable f s config queue l
     loaded_is config queue l same waits rules groups low high packed =
         let is = opens_loaded l rules groups low packed in
         record {
@@ -225,11 +225,11 @@ no_block (Some Limbo) none = refl
 
 -- it is opened with words that are all misses, and groups that were never linked
 pub opens_blank : (f s : ℕ) (config : Config) (control : ControlState f s) (memory : PlainMemory f s)
-    → PlainDid f s memory.cells memory.domain (blank_state f s config) []
-    → IsResting f s (blank_state f s config) [] control.config control.rules control.pool control.versions
+    → PlainDid f s memory.cells memory.domain (blank_initial_state f s config) []
+    → IsResting f s (blank_initial_state f s config) [] control.config control.rules control.pool control.versions
     → control.config ≡ config → control.rules.rules ≡ empty
     → initial_state_of (initial_data_by f s memory.cells control.rules.rules control.pool.groups control.config.workers memory.domain.token)
-    ≡ blank_state f s config
+    ≡ blank_initial_state f s config
 opens_blank f s config control memory did rests same none = λ i. record {
   first = f;
   second = s;

@@ -15,7 +15,7 @@ use Rattle.fib.proofs.InitialVersions.{fewer_words, sound_swept, control, memory
 use Rattle.shared_words.specs.Layout.{pairs, pair_at, packed_words}
 use Rattle.shared_words.proofs.WordPlaces.{packed_at, packed_length}
 use Rattle.shared_fib.specs.declared.initial_table.InitialTable.{InitialTable}
-use Rattle.shared_fib.specs.LoadedTable.{IsLoaded, AreSwept}
+use Rattle.shared_fib.specs.InitialTable.{IsInitialTable, AreInitialWords}
 use Rattle.shared_fib.proofs.Openings.{loaded_packed, loaded_is}
 
 -- ---- how many words there may be
@@ -100,7 +100,7 @@ laid_out F S W Z count d token second workers put filled rest all fits =
 -- ---- a table may go on from the words of a sweep
 
 module _ (f s : ℕ) (config : Config) (R : RuleMap) (words blocks : List ℕ) (shape : IsShape f s) (limits : IsConfig config)
-    (swept : AreSwept f s config R words blocks) where
+    (swept : AreInitialWords f s config R words blocks) where
   abbrev pub swept_control : ControlState f s
   swept_control = control f s config R 0 blocks swept.firsts swept.seconds
 
@@ -119,7 +119,7 @@ module _ (f s : ℕ) (config : Config) (R : RuleMap) (words blocks : List ℕ) (
 
   pub swept_loaded : (l : InitialTable f s) (queue : Queue) (z : ControlState f s) → z ≡ swept_control → l.words.items ≡ words
       → l.layout.firsts ≡ 2 ^ f → l.layout.seconds ≡ config.groups * 2 ^ s → l.layout.workers ≡ config.workers
-      → l.rules ≡ z.rules → l.groups ≡ z.pool.groups → queue ≡ z.pool.queue → IsLoaded f s config queue l
+      → l.rules ≡ z.rules → l.groups ≡ z.pool.groups → queue ≡ z.pool.queue → IsInitialTable f s config queue l
   swept_loaded l queue z is same firsts seconds workers rules groups waits =
       loaded_is f s swept_control swept_memory sound refl config queue l refl (waits ∙ ap (λ (y : ControlState f s). y.pool.queue) is)
       (rules ∙ ap (λ (y : ControlState f s). y.rules) is) (groups ∙ ap (λ (y : ControlState f s). y.pool.groups) is)

@@ -1,7 +1,7 @@
 pub mod RunningTable
 pub mod FreedGroups
 pub mod Versions
-pub mod LoadedTable
+pub mod InitialTable
 pub mod Laws
 pub mod Initial
 pub mod LentSeats

@@ -7,8 +7,8 @@ ghost use Rattle.lpm_limits.specs.Limits.{IsConfig};
 ghost use Rattle.fib_model.specs.Counters.{by_counters};
 ghost use Rattle.fib.specs.Fib.{IsSound};
 ghost use Rattle.shared_fib.specs.Initial.{initial_data_by};
-ghost use Rattle.lpm_writer.specs.Rest.{blank_state};
-ghost use Rattle.shared_fib.specs.LoadedTable.{IsLoaded};
+ghost use Rattle.lpm_writer.specs.Rest.{blank_initial_state};
+ghost use Rattle.shared_fib.specs.InitialTable.{IsInitialTable};
 ghost use Rattle.shared_fib.specs.Passes.{IsFullBench};
 ghost use Rattle.shared_fib.specs.RunningTable.{initial_data_of, initial_writer, initial_state};
 
@@ -34,7 +34,7 @@ fn load<const FIRST: u32, const SECOND: u32>(
     ensures initial { IfOk result (λ r. initial_data_of FIRST SECOND r.2 ≡ initial_data_by FIRST SECOND
         memory.entry.cells control.entry.rules.rules control.entry.pool.groups
         control.entry.config.workers memory.entry.domain.token) }
-    ensures loaded { IfOk result (λ r. IsLoaded FIRST SECOND r.0 r.1 r.2) }
+    ensures loaded { IfOk result (λ r. IsInitialTable FIRST SECOND r.0 r.1 r.2) }
 {
     let PlainMemory { cells, domain } = memory;
     let ControlState {
@@ -94,7 +94,7 @@ pub(crate) fn go_on<const FIRST: u32, const SECOND: u32>(
     queue: DeferQueue,
     initial: InitialTable<FIRST, SECOND>,
 ) -> Result<(SharedTable<FIRST, SECOND>, Writer<FIRST, SECOND>, Bench), AllocError>
-    requires { IsLoaded FIRST SECOND config queue initial }
+    requires { IsInitialTable FIRST SECOND config queue initial }
     ensures initial { IfOk result (λ r. r.0.initial ≡ initial_data_of FIRST SECOND initial.entry) }
     ensures opened { IfOk result (λ r. r.1 ≡ initial_writer r.0 config initial.entry.rules.rules) }
     ensures token { IfOk result (λ r. r.0.initial.token
@@ -137,7 +137,7 @@ pub fn open<const FIRST: u32, const SECOND: u32>(
     config: Config,
 ) -> Result<(SharedTable<FIRST, SECOND>, Writer<FIRST, SECOND>, Bench), OpenError>
     requires { IsShape FIRST SECOND }
-    ensures initial { IfOk result (λ r. initial_state r.0 ≡ blank_state FIRST SECOND config) }
+    ensures initial { IfOk result (λ r. initial_state r.0 ≡ blank_initial_state FIRST SECOND config) }
     ensures opened { IfOk result (λ r. r.1 ≡ initial_writer r.0 config map.empty) }
     ensures token { IfOk result (λ r. r.0.initial.token ≡ config.first_token) }
     ensures workers { IfOk result (λ r. r.0.initial.workers ≡ config.workers) }

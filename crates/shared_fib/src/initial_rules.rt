@@ -6,7 +6,7 @@ ghost use Rattle.lpm_limits.specs.Limits.{IsConfig};
 ghost use Rattle.lpm_rules.specs.RuleMap.{AreInOrder, rules_of};
 ghost use Rattle.fib_model.specs.Outcomes.{AreSufficient, AreTooSmall, groups_in_use};
 ghost use Rattle.shared_words.specs.Layout.{packed_words};
-ghost use Rattle.shared_fib.specs.LoadedTable.{AreSwept, IsLoaded};
+ghost use Rattle.shared_fib.specs.InitialTable.{AreInitialWords, IsInitialTable};
 ghost use Rattle.shared_fib.specs.Passes.{IsFullBench};
 ghost use Rattle.shared_fib.specs.RunningTable.{initial_data_of, initial_writer};
 
@@ -59,7 +59,7 @@ fn sweep_words<const FIRST: u32, const SECOND: u32>(
     requires limits { IsConfig config }
     requires sorted { AreInOrder rules.now }
     ensures swept { IfOk result (λ o. IfSome o (λ t.
-        AreSwept FIRST SECOND config (rules_of rules.now) t.0.items t.1.items)) }
+        AreInitialWords FIRST SECOND config (rules_of rules.now) t.0.items t.1.items)) }
     ensures fit { IfOk result (λ o. IfSome o (λ _.
         groups_in_use FIRST SECOND (rules_of rules.now) ≤ config.groups)) }
     ensures none { IfOk result (λ o. IsNone o
@@ -89,8 +89,8 @@ fn load_swept<const FIRST: u32, const SECOND: u32>(
     requires shape { IsShape FIRST SECOND }
     requires limits { IsConfig config }
     requires sorted { AreInOrder rules.now }
-    requires swept { AreSwept FIRST SECOND config (rules_of rules.now) words.items blocks.now }
-    ensures loaded { IfOk result (λ t. IsLoaded FIRST SECOND config t.0 t.1) }
+    requires swept { AreInitialWords FIRST SECOND config (rules_of rules.now) words.items blocks.now }
+    ensures loaded { IfOk result (λ t. IsInitialTable FIRST SECOND config t.0 t.1) }
     ensures rules { IfOk result (λ t. t.1.rules.rules ≡ rules_of rules.now) }
     ensures token { IfOk result (λ t. (initial_data_of FIRST SECOND t.1).token ≡ config.first_token) }
     ensures workers { IfOk result (λ t. t.1.layout.workers ≡ config.workers) }

@@ -18,7 +18,7 @@ use Rattle.lpm_writer.specs.GroupToFill.{HasWidths}
 use Rattle.lpm_rules.specs.RuleMap.{RuleMap}
 use Rattle.lpm_rules.specs.declared.Change.{Change}
 use Rattle.shared_fib.specs.RunningTable.{Identity, IsAtRest, WriterState, initial_writer, initial_state}
-use Rattle.storm.specs.Writer.{HasMade, HasVersions, IsForWriter, IsOpened, by_own_steps, change_by, changes_by}
+use Rattle.storm.specs.Writer.{HasMade, HasVersions, IsForWriter, IsInitial, by_own_steps, change_by, changes_by}
 use Rattle.storm.proofs.Versions.{append_nil, versions_next, versions_none}
 use Rattle.defer_queue.specs.Reclaims as queue
 
@@ -121,7 +121,7 @@ module _ (f s : ℕ) where
   made_none id config R cs os w widths token workers new rests none =
       let first : WriterState = initial_writer id config id.initial.rules in
       let is : w ≡ first = new ∙ ap (initial_writer id config) (sym (first_rules id config R w new rests)) in
-      let opened : IsOpened f s config id = record { widths = widths; token = token; workers = workers; rests = subst IsAtRest is rests } in
+      let opened : IsInitial f s config id = record { widths = widths; token = token; workers = workers; rests = subst IsAtRest is rests } in
       let nothing : HasMade id config cs [] first = record {
         opened = opened;
         identity = refl;

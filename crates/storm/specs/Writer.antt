@@ -72,7 +72,7 @@ pub record HasVersions {first second : ℕ} (R : RuleMap) (w : WriterState)
 
 -- the table was opened with these limits, and with its rules as version 0: by these its words answer each
 -- address
-pub record IsOpened (first second : ℕ) (config : Config) (id : Identity) : Type 0 where
+pub record IsInitial (first second : ℕ) (config : Config) (id : Identity) : Type 0 where
   pub widths : HasWidths first second (initial_state id)
   pub token : id.initial.token ≡ config.first_token
   pub workers : id.initial.workers ≡ config.workers
@@ -83,7 +83,7 @@ pub record IsOpened (first second : ℕ) (config : Config) (id : Identity) : Typ
 -- from the table's first rules on
 pub record HasMade {first second : ℕ} (id : Identity) (config : Config)
     (orders : List (Order first second)) (outcomes : List Outcome) (w : WriterState) : Type 0 where
-  pub opened : IsOpened first second config id
+  pub opened : IsInitial first second config id
   pub identity : w.identity ≡ id
   pub limits : w.config ≡ config
   pub some : length outcomes ≤ length orders

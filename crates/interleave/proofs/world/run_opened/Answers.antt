@@ -1,6 +1,6 @@
 use Rattle.std.proofs.Common.{arith, ◌≡◌, ◌≤◌, ap, sym, subst, ◌∙◌, [], length, map}
 use Rattle.std.proofs.lemmas.List.{length-map}
-use Rattle.lpm_writer.specs.Rest.{blank_state, state_of}
+use Rattle.lpm_writer.specs.Rest.{blank_initial_state, state_of}
 use Rattle.lpm_writer.specs.Limbo.{tokens_of}
 use Rattle.interleave.specs.World.{writer_items, IsPlayedOut}
 use Rattle.interleave.specs.Runs.{IsPerformed}
@@ -11,7 +11,7 @@ pub answer_all-requires : goal.answer_all-requires
 answer_all-requires g c =
     let f = g.row.FIRST in
     let s = g.row.SECOND in
-    let initial = blank_state f s c.args.control.now.config in
+    let initial = blank_initial_state f s c.args.control.now.config in
     let did = c.in_ok-memory.ensures.did initial (opens f s c.args.control.now.config (length c.args.scripts.now) c.requires.workers) in
     let all : length c.in_ok-memory.memory.schedule ≤ length c.args.schedule.now = let same = ap length c.in_ok-memory.ensures.schedule in omega (arith, same) in
     (omega arith, (omega arith, (omega arith, ((initial, did, c.requires.rests), all))))
@@ -20,7 +20,7 @@ pub play_out-requires : goal.play_out-requires
 play_out-requires g c =
     let f = g.row.FIRST in
     let s = g.row.SECOND in
-    let initial = blank_state f s c.args.control.now.config in
+    let initial = blank_initial_state f s c.args.control.now.config in
     let did = c.in_ok-memory.ensures.did initial (opens f s c.args.control.now.config (length c.args.scripts.now) c.requires.workers) in
     let performed = c.in_ok-replies.ensures.performed initial did c.requires.rests in
     (omega arith, (initial, performed.0, performed.1))
@@ -30,7 +30,7 @@ returns-clause-runs g c =
     let f = g.row.FIRST in
     let s = g.row.SECOND in
     let config = c.args.control.now.config in
-    let initial = blank_state f s config in
+    let initial = blank_initial_state f s config in
     let control = c.args.control.now in
     let told = c.requires in
     let scripts = map (λ script. script.items) c.args.scripts.now in

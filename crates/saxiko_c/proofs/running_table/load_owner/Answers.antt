@@ -5,7 +5,7 @@ use Rattle.fib_model.specs.Outcomes.{AreSufficient}
 use Rattle.saxiko.specs.Owners.{OwnerState}
 use Rattle.shared_fib.specs.Passes.{IsFullBench}
 use Rattle.shared_fib.specs.RunningTable.{initial_writer}
-use Rattle.saxiko_c.specs.RunningTable.{IsOpened}
+use Rattle.saxiko_c.specs.RunningTable.{IsInitial}
 use Rattle.saxiko_c.proofs.Options.{at_some}
 use Rattle.saxiko_c.proofs.running_table.load_owner.Goals as goal
 
@@ -18,9 +18,9 @@ returns-in-Ok-Some c =
     let read = c.in_ok-rules.ensures in
     MatchResult-weaker c.boxed.result c.boxed.ensures
     (λ b made.
-    let opened = subst (λ (R : RuleMap). AreSufficient 24 8 config R × IsOpened config R b.value) (ap rules_of (c.deref.ensures.value ∙ read.0)) (
+    let opened = subst (λ (R : RuleMap). AreSufficient 24 8 config R × IsInitial config R b.value) (ap rules_of (c.deref.ensures.value ∙ read.0)) (
       at_some (λ (o : OwnerState). AreSufficient 24 8 config rules) is known.suffice,
-      subst (IsOpened config rules) (sym (made ∙ c.new.ensures)) (record {
+      subst (IsInitial config rules) (sym (made ∙ c.new.ensures)) (record {
         opened = at_some (λ (o : OwnerState). o.writer ≡ initial_writer o.writer.identity config rules) is known.opened;
         token = at_some (λ (o : OwnerState). o.writer.identity.initial.token ≡ config.first_token) is known.token;
         workers = at_some (λ (o : OwnerState). o.writer.identity.initial.workers ≡ config.workers) is known.workers;

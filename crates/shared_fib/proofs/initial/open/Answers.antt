@@ -1,5 +1,5 @@
 use Rattle.std.proofs.Common.{ap, ◌∙◌, rules, lit<}
-use Rattle.lpm_writer.specs.Rest.{blank_state}
+use Rattle.lpm_writer.specs.Rest.{blank_initial_state}
 use Rattle.fib.proofs.Sound.{sound_new}
 use Rattle.shared_words.specs.Layout.{initial_state_of}
 use Rattle.shared_fib.proofs.Openings.{opens_blank}
@@ -25,7 +25,7 @@ begin-requires g c =
     let f = g.row.FIRST in
     let s = g.row.SECOND in
     let new = c.in_ok-control.ensures in
-    (lit< tt, (lit< tt, (lit< tt, (lit< tt, (sound_new f s (blank_state f s c.args.config) c.in_ok-control.control c.in_ok-control.memory new.did new.rests, new.queue)))))
+    (lit< tt, (lit< tt, (lit< tt, (lit< tt, (sound_new f s (blank_initial_state f s c.args.config) c.in_ok-control.control c.in_ok-control.memory new.did new.rests, new.queue)))))
 
 pub returns-clause-initial : goal.returns-clause-initial
 returns-clause-initial g c =

@@ -15,8 +15,9 @@ use Rattle.shared_fib.specs.declared.initial_table.InitialTable.{InitialTable}
 use Rattle.shared_fib.specs.Initial.{ArePacked}
 use Rattle.shared_fib.specs.RunningTable.{initial_data_of}
 
--- a running table of these limits may go on from what was loaded: no group waits, and its writer rests
-pub record IsLoaded (first second : ℕ) (config : Config) (queue : Queue) (l : InitialTable first second) : Type 0 where
+-- a running table of these limits may begin with this: no group waits, and its writer rests
+pub record IsInitialTable (first second : ℕ) (config : Config) (queue : Queue)
+    (l : InitialTable first second) : Type 0 where
   pub shape : IsShape first second
   pub packed : ArePacked (initial_data_of first second l) l.words.items l.layout
   pub settled : IsSettled (initial_state_of (initial_data_of first second l))
@@ -27,7 +28,8 @@ pub record IsLoaded (first second : ℕ) (config : Config) (queue : Queue) (l : 
 
 -- a running table begins with these words, which stand for the rules: the sequence, the token, the first
 -- words, the words of the groups of these blocks, misses for the groups that are free, and the counters
-pub record AreSwept (first second : ℕ) (config : Config) (R : RuleMap) (words blocks : List ℕ) : Type 0 where
+pub record AreInitialWords (first second : ℕ) (config : Config) (R : RuleMap)
+    (words blocks : List ℕ) : Type 0 where
   pub firsts : List ℕ
   pub seconds : List ℕ
   pub represents : Represents first second R (record { firsts = firsts; seconds = seconds })
