@@ -13,7 +13,6 @@ ghost use Rattle.fib_model.specs.declared.orders.ReaderReport.TheVariants as rep
 ghost use Rattle.lpm_limits.specs.declared.refusal.Refusal.{Refusal};
 ghost use Rattle.lpm_rules.specs.declared.Put.{Put};
 
-use super::OpenError;
 use super::parts::{parts_at, parts_of, sorted_rules};
 use defer_queue::Reclaimed;
 use lpm_bits::{Hop, Prefix};
@@ -21,7 +20,8 @@ use lpm_groups::Counts;
 use lpm_limits::{Config, Refusal};
 use lpm_rules::{Put, Rule, Rules};
 use lpm_writer::{
-    ControlState, PlainMemory, add_rule, delete_rule, flush_rules, open_memory, reclaim_groups,
+    ControlState, OpenError, PlainMemory, add_rule, delete_rule, flush_rules, open_memory,
+    reclaim_groups,
 };
 use std::alloc::Global;
 use std::marker::Model;

@@ -6,11 +6,12 @@ ghost use Rattle.lpm_limits.specs.Limits.{IsConfig};
 ghost use Rattle.fib_model.specs.Outcomes.{log_after};
 ghost use Rattle.fib.specs.Replay.{GoesOn, IsAsked, IsReplay};
 
-use super::{Fib, OpenError};
+use super::Fib;
 use fib_model::{Order, Outcome};
 use lpm_bits::Hop;
 use lpm_groups::Counts;
 use lpm_limits::Config;
+use lpm_writer::OpenError;
 use std::alloc::{AllocError, Global};
 
 /// What came of a list of commands, and what the table answered and counted after the last.
