@@ -1,7 +1,7 @@
 //! The retired groups of a table, which wait until no reader can hold them any more.
 #![tactic(auto)]
 
-ghost use Rattle.std.specs.Prelude.{◌≡◌, ℕ, ◌+◌, ◌<◌, ◌≤◌, ◌==◌, List, [], ◌∷◌, ◌++◌, length, drop, slice_get, IfOk, OnOk, OnErr, MatchOption, Result};
+ghost use Rattle.std.specs.Prelude.{◌≡◌, ℕ, ◌+◌, ◌<◌, ◌≤◌, ◌==◌, List, [], ◌∷◌, ◌++◌, ◌⊎◌, length, drop, slice_get, IfOk, OnOk, OnErr, MatchOption, Result};
 ghost use Rattle.lpm_limits.specs.declared.busy.Busy.{Busy};
 ghost use Rattle.defer_queue.specs.Reclaims.{Reclaims};
 
@@ -14,14 +14,17 @@ use std::marker::Model;
 /// again.
 ///
 /// An implementation says by `ready` which items it can check and free, and in which order; by
-/// `may_free` when it takes a group back; by `held` what it knows where a check has failed; and by
-/// `checks` and `frees` what its calls did.
+/// `may_check` which token it can check besides; by `may_free` when it takes a group back; by `held`
+/// what it knows where a check has failed; and by `checks` and `frees` what its calls did.
 pub trait Grace {
     // The ghost names of the references that it holds, which no call changes.
     ghost lent: { Self → List ℕ } = { λ _. [] };
 
     // These items, each a group and its token, may be checked and freed in this order.
     ghost ready: { Self → List (ℕ × ℕ) → Type 0 };
+
+    // The token may be checked besides, though no such item is next.
+    ghost may_check: { Self → ℕ → Type 0 } = { λ _ _. ⊥ };
 
     // The item has passed its check: its group may be freed now, and these items come after it.
     ghost may_free: { Self → ℕ × ℕ → List (ℕ × ℕ) → Type 0 };
@@ -37,9 +40,10 @@ pub trait Grace {
 
     /// Whether every worker has left the token behind; else a worker that holds it.
     ///
-    /// It is asked of the token of an item that is next in order.
+    /// It is asked of the token of an item that is next in order, and where `may_check` allows it.
     fn check(&mut self, token: u64) -> Result<(), Busy>
-        requires { (group : ℕ) × (rest : List (ℕ × ℕ)) × ready self.old ((group, token) ∷ rest) }
+        requires { ((group : ℕ) × (rest : List (ℕ × ℕ)) × ready self.old ((group, token) ∷ rest))
+            ⊎ may_check self.old token }
         ensures checks { checks self.old token result self.new }
         ensures lent { lent self.new ≡ lent self.old }
         ensures passed { OnOk result ((group : ℕ) (rest : List (ℕ × ℕ)) →
@@ -141,7 +145,7 @@ impl DeferQueue {
     {
         let mut freed = 0;
         while freed < max {
-            let Some((group, token)) = self.front() else {
+            let Some((group, token)) = self.items.front().copied() else {
                 break;
             };
             if let Err(busy) = grace.check(token) {
@@ -150,7 +154,7 @@ impl DeferQueue {
                     stopped: Some(busy),
                 };
             }
-            self.take_front();
+            let _ = self.items.pop_front();
             grace.free(group);
             freed += 1;
         }

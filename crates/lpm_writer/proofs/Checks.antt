@@ -1,5 +1,6 @@
 -- What a check leaves.
 use Rattle.std.proofs.Common.{arith, ◌≡◌, ℕ, suc, ◌+◌, ◌<◌, ◌≤◌, inl, inr, true, false, cond, eqb, eq-eqb, refl, sym, ap, subst, ◌∙◌, List, ◌∷◌, leb, ◌⊎◌, add-one, zero, max}
+use Rattle.std.proofs.lemmas.Bool.{cases_eq}
 use Rattle.std.proofs.lemmas.Bool.Decides.{eqb_tells, leb_tells}
 use Rattle.lpm_trace.specs.declared.step.WriterStep.{WriterStep}
 use Rattle.lpm_trace.specs.declared.step.WriterStep.TheVariants.{LoadCounter}
@@ -8,6 +9,7 @@ use Rattle.lpm_trace.specs.Progress.{WriterProgress, Check, IsLoadDue, progress_
 use Rattle.lpm_trace.specs.Writer.{progress_after, MayStep}
 use Rattle.lpm_writer.specs.TokenCheck.{Loads, LoadsUntilStopped}
 use Rattle.lpm_writer.specs.MemorySteps.{WithSteps, Goes, Checks}
+use Rattle.lpm_writer.specs.Commands.{ChecksBy}
 use Rattle.lpm_writer.specs.GroupsMatch.{MayLoadCounters, SameState, HasNothingDue}
 use Rattle.std.specs.Prelude.{◌&&◌, Result, Ok, Err, Some}
 use Rattle.lpm_limits.specs.declared.busy.Busy.{Busy}
@@ -254,3 +256,11 @@ module _ {M : Type 0} (does : M → WriterStep → M → Type 0) (c : InitialSta
   -- a worker stopped the check: no greater token has passed
   pub passed_where_one_stops : (x : WithSteps M) (t : ℕ) (busy : Busy) (z : WithSteps M) → LoadsUntilStopped (Goes does) c.workers x t (Err busy) z → (state_after c z.1).passed ≡ (state_after c x.1).passed
   passed_where_one_stops x t busy z h = (stopped x t busy z h).passed
+
+-- a token that isn't above the greatest that has passed passes without a load
+pub passes_at_once : {M : Type 0} (did : M → InitialState → List WriterStep → Type 0) (does : M → WriterStep → M → Type 0) (m : M) (passed token : ℕ) → token ≤ passed
+    → ChecksBy did does m passed token (Ok tt) m passed
+passes_at_once did does m passed token le c steps d known may = elim (cases_eq c.workers 0) [
+  | inl none ↦ (steps, d, inr ((λ some. absurd (omega (arith, none, some))), subst (λ n. Loads (Goes does) n (m, steps) token (m, steps)) (sym none) refl), known)
+  | inr some ↦ (steps, d, inl (subst (λ p. token ≤ p) (known (omega (arith, some))) le, refl, refl), known)
+]

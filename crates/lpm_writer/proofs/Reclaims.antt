@@ -1,6 +1,6 @@
 -- A reclaim, from item to item.
 use Rattle.std.proofs.Common.{◌≡◌, ℕ, zero, suc, true, refl, sym, ap, subst, ◌∙◌, List, [], ◌∷◌, ◌++◌, Option, arith, ◌%◌, ◌<◌, ◌≤◌, ◌⊎◌, inl, inr, Some, None, ◌+◌}
-use Rattle.std.specs.Prelude.{slice_set, slice_get, Result, Ok, Err, OnOk}
+use Rattle.std.specs.Prelude.{slice_set, slice_get, Result, Ok, Err, OnOk, OnErr}
 use Rattle.lpm_groups.specs.declared.GroupState.TheVariants.{Limbo, Free, Linked as LinkedTo}
 use Rattle.lpm_trace.specs.declared.step.WriterStep.{WriterStep}
 use Rattle.lpm_trace.specs.declared.step.WriterStep.TheVariants.{BumpToken}
@@ -9,11 +9,11 @@ use Rattle.lpm_trace.specs.Progress.{WriterProgress, Nothing, progress_after_bum
 use Rattle.lpm_trace.specs.Writer.{progress_after, MayStep}
 use Rattle.lpm_writer.specs.declared.pool.GroupPool.{GroupPool}
 use Rattle.lpm_writer.specs.Limbo.{AreWaiting, tokens_of}
-use Rattle.lpm_writer.specs.Commands.{ChecksBy, MayFree}
+use Rattle.lpm_writer.specs.Commands.{ChecksBy, IsReclaimable, HasPassedFront}
 use Rattle.lpm_writer.specs.GroupsMatch.{OnlyChecks, GroupsMatchSteps, MayReclaim, AreAfter, AreRetired, AreBelow, IsAmong, GroupsMatchState, IsLimbo, MayLoadCounters, Remembers}
 use Rattle.lpm_writer.proofs.GivenUp.{HasUnlinked, HasRetired}
 use Rattle.lpm_writer.proofs.LimboItems.{free_linked, freed_states, waiting_set}
-use Rattle.lpm_writer.proofs.Checks.{quiet_on, HasPassed, HasStopped, quiet_same, check_passes, check_stops}
+use Rattle.lpm_writer.proofs.Checks.{quiet_on, HasPassed, HasStopped, quiet_same, check_passes, check_stops, passes_at_once}
 use Rattle.std.proofs.lemmas.Bool.{cases_eq}
 use Rattle.std.proofs.lemmas.Option.{same_Some, slice_get_within}
 use Rattle.defer_queue.specs.RetiredGroups.{IsAbsent}
@@ -127,6 +127,19 @@ may_ask c steps states g t rest tail passed held k may more some counter =
     first : (other u : ℕ) → IsAmong other u ((g, t) ∷ rest ++ tail) → t ≤ u
     first other u (inl e) = subst (λ x. t ≤ x) (sym e.1) (omega arith)
     first other u (inr at) = let lt = after_among t other u (rest ++ tail) k.kept.rising.0 at in omega (arith, lt)
+
+-- after some steps that may have led to the memory, a check of the token may load the counters
+abbrev pub MayLoad : {M : Type 0} → (M → InitialState → List WriterStep → Type 0) → M → ℕ → ℕ → Type 0
+MayLoad did m passed token = (c : InitialState) × (steps : List WriterStep) × did m c steps × (passed < token → MayLoadCounters c steps token)
+
+-- so it is of the oldest item's token
+pub may_load : {M : Type 0} (did : M → InitialState → List WriterStep → Type 0) (m : M) (states : List GroupState) (passed token : ℕ)
+    → ((group : ℕ) × (rest : List (ℕ × ℕ)) × IsReclaimable did m states passed ((group, token) ∷ rest)) ⊎ MayLoad did m passed token
+    → MayLoad did m passed token
+may_load did m states passed token (inl front) =
+    let may = front.2.may in
+    (may.initial, may.steps, may.led, may_ask may.initial may.steps states front.0 token front.1 may.behind passed may.held may.groups may.may)
+may_load did m states passed token (inr may) = may
 
 -- the front has passed its check, and is freed
 pub keeps_freed : (c : InitialState) (steps later : List WriterStep) (states : List GroupState) (g t : ℕ) (items : List (ℕ × ℕ)) (passed passed' : ℕ) (held : Option ℕ)
@@ -313,19 +326,28 @@ module _ {M : Type 0} (did : M → InitialState → List WriterStep → Type 0) 
   -- ---- an item whose check has passed may be freed, and then those behind it may be checked
 
   pub passes_item : (m : M) (states : List GroupState) (passed g t : ℕ) (rest : List (ℕ × ℕ)) (z : M) (passed' : ℕ) (result : Result (Unit {0}) Busy)
-      → ChecksBy did does m passed t result z passed' → AreWaiting states ((g, t) ∷ rest) → MayFree did m states passed ((g, t) ∷ rest) → result ≡ Ok tt
-      → IsLimboAt states g × AreWaiting (slice_set states g Free) rest × MayFree did z (slice_set states g Free) passed' rest
-  passes_item m states passed g t rest z passed' result answers waits may ok =
+      → ChecksBy did does m passed t result z passed' → IsReclaimable did m states passed ((g, t) ∷ rest) → result ≡ Ok tt
+      → HasPassedFront did z states passed' (g, t) rest
+  passes_item m states passed g t rest z passed' result answers ready ok =
+      let waits = ready.waiting in
+      let may = ready.may in
       let items = (g, t) ∷ rest in
       let one = one_freed m states items passed 0 m states items passed (none_freed m states items passed) g t rest refl z passed' result answers ok waits.0 in
       let now = one may.initial may.steps may.behind may.held may.led may.groups may.may in
-      (waits.0, waiting_set states g Free rest waits.1 waits.2, record { initial = may.initial; steps = now.0; behind = may.behind; held = may.held; led = now.1; groups = now.3; may = now.4 })
+      record {
+        limbo = waits.0;
+        behind = record {
+          waiting = waiting_set states g Free rest waits.1 waits.2;
+          may = record { initial = may.initial; steps = now.0; behind = may.behind; held = may.held; led = now.1; groups = now.3; may = now.4 };
+        };
+      }
 
   -- ---- a reclaim of the queue, whose state is a memory, groups, and the greatest token that has passed
 
   module _ {S : Type 0} (memory : S → M) (groups : S → List GroupState) (passed : S → ℕ) where
     abbrev pub ChecksItem : S → ℕ × ℕ → Result (Unit {0}) Busy → S → Type 0
     ChecksItem s item r z = ChecksBy did does (memory s) (passed s) item.1 r (memory z) (passed z) × (groups z ≡ groups s)
+        × OnOk r (item.1 ≤ passed z) × OnErr r (passed z ≡ passed s)
 
     abbrev pub FreesItem : S → ℕ × ℕ → S → Type 0
     FreesItem s item z = (memory z ≡ memory s) × (passed z ≡ passed s) × (groups z ≡ slice_set (groups s) item.0 Free)
@@ -398,3 +420,11 @@ module _ {M : Type 0} (did : M → InitialState → List WriterStep → Type 0) 
       reclaimed_waits None left z r = subst (λ x. AreWaiting (groups x) left) (sym r.end.1) (front_waits n items left s r.last r.front waits)
       reclaimed_waits (Some busy) [] z r = absurd r.end
       reclaimed_waits (Some busy) (item ∷ left) z r = subst (λ ys. AreWaiting ys (item ∷ left)) (sym r.end.1.1) (front_waits n items (item ∷ left) s r.last r.front waits)
+
+-- an item whose token isn't above the greatest that has passed may be freed with no load
+pub passed_already : {M : Type 0} (did : M → InitialState → List WriterStep → Type 0) (m : M) (states : List GroupState) (passed token group : ℕ) (rest : List (ℕ × ℕ)) → token ≤ passed
+    → IsReclaimable did m states passed ((group, token) ∷ rest)
+    → HasPassedFront did m states passed (group, token) rest
+passed_already {M} did m states passed token group rest le ready =
+    let does : M → WriterStep → M → Type 0 = λ x s z. Unit {0} in
+    passes_item did does m states passed group token rest m passed (Ok tt) (passes_at_once did does m passed token le) ready refl

@@ -1,5 +1,5 @@
 -- This layer's own: what a command of a writer needs, and what it leaves (this project's).
-use Rattle.std.specs.Prelude.{ℕ, List, suc, ◌≡◌, ◌<◌, Some, ◌++◌, Option, Result}
+use Rattle.std.specs.Prelude.{ℕ, List, suc, ◌≡◌, ◌<◌, Some, ◌++◌, Option, Result, slice_set}
 use Rattle.lpm_trace.specs.declared.step.WriterStep.{WriterStep}
 use Rattle.lpm_trace.specs.States.{InitialState, state_after}
 use Rattle.defer_queue.specs.declared.Reclaimed.{Reclaimed}
@@ -8,6 +8,8 @@ use Rattle.lpm_writer.specs.declared.control.ControlState.{ControlState}
 use Rattle.lpm_writer.specs.MemorySteps.{WithSteps, Checks, by_writer}
 use Rattle.lpm_writer.specs.Rest.{IsResting, state_of}
 use Rattle.lpm_groups.specs.declared.GroupState.{GroupState}
+use Rattle.lpm_groups.specs.declared.GroupState.TheVariants.{Free}
+use Rattle.lpm_groups.specs.States.{IsLimboAt}
 use Rattle.lpm_limits.specs.declared.busy.Busy.{Busy}
 use Rattle.lpm_limits.specs.declared.config.Config.{Config}
 use Rattle.lpm_rules.specs.RuleMap.{RuleList}
@@ -16,7 +18,7 @@ use Rattle.lpm_trace.specs.Writer.{progress_after}
 use Rattle.lpm_writer.specs.declared.pool.GroupPool.{GroupPool}
 use Rattle.lpm_writer.specs.GroupsMatch.{HasNothingDue, SameState, GroupsMatchSteps, MayLoadCounters, MayReclaim, OnlyChecks, Remembers}
 use Rattle.lpm_writer.specs.Steps.{StoresOnce}
-use Rattle.lpm_writer.specs.Limbo.{tokens_of}
+use Rattle.lpm_writer.specs.Limbo.{tokens_of, AreWaiting}
 
 -- the writer rests with this control state
 abbrev pub Rests : {first second : ℕ} → InitialState → List WriterStep → ControlState first second → Type 0
@@ -73,6 +75,18 @@ pub record MayFree {M : Type 0} (did : M → InitialState → List WriterStep �
   pub led : did m initial steps
   pub groups : GroupsMatchSteps initial steps states (items ++ behind) passed held
   pub may : MayReclaim initial steps items
+
+-- these items may be freed in their order, each after a check of its token
+pub record IsReclaimable {M : Type 0} (did : M → InitialState → List WriterStep → Type 0) (m : M)
+    (states : List GroupState) (passed : ℕ) (items : List (ℕ × ℕ)) : Type 0 where
+  pub waiting : AreWaiting states items
+  pub may : MayFree did m states passed items
+
+-- the check of the oldest item has passed: its group may be freed, and then those behind it
+pub record HasPassedFront {M : Type 0} (did : M → InitialState → List WriterStep → Type 0) (m : M)
+    (states : List GroupState) (passed : ℕ) (item : ℕ × ℕ) (rest : List (ℕ × ℕ)) : Type 0 where
+  pub limbo : IsLimboAt states item.0
+  pub behind : IsReclaimable did m (slice_set states item.0 Free) passed rest
 
 -- A check of a token leads from m, where the greatest that had passed was `passed`, to z, where it is
 -- `later_passed`: whatever steps may have led to m, a check's steps after them may have led to z.

@@ -24,61 +24,50 @@ pub(crate) struct Reclaimer<'a, M> {
 impl<M: Memory> Grace for Reclaimer<'_, M> {
     ghost use Rattle.std.specs.Prelude.{◌≡◌, ⊤, [], ◌∷◌, slice_set};
     ghost use Rattle.lpm_groups.specs.declared.GroupState.TheVariants.{Free};
-    ghost use Rattle.lpm_groups.specs.States.{IsLimboAt};
-    ghost use Rattle.lpm_writer.specs.Limbo.{AreWaiting};
-    ghost use Rattle.lpm_writer.specs.Commands.{ChecksBy, MayFree};
+    ghost use Rattle.lpm_writer.specs.Commands.{ChecksBy, IsReclaimable, HasPassedFront};
 
     ghost lent = { λ s. s.memory.ghost_name ∷ s.groups.ghost_name ∷ s.passed.ghost_name ∷ [] };
 
-    ghost ready = { λ s items. AreWaiting s.groups.now items
-        × MayFree M.did s.memory.now s.groups.now s.passed.now items };
+    ghost ready = { λ s items.
+        IsReclaimable M.did s.memory.now s.groups.now s.passed.now items };
 
-    ghost may_free = { λ s item rest. IsLimboAt s.groups.now item.0
-        × AreWaiting (slice_set s.groups.now item.0 Free) rest
-        × MayFree M.did s.memory.now (slice_set s.groups.now item.0 Free) s.passed.now rest };
+    // the check of a synchronize
+    ghost may_check = { λ s token. (c : InitialState) × (steps : List WriterStep)
+        × M.did s.memory.now c steps × (s.passed.now < token → MayLoadCounters c steps token) };
+
+    ghost may_free = { λ s item rest.
+        HasPassedFront M.did s.memory.now s.groups.now s.passed.now item rest };
 
     // In an update the next check may come after the next unlinking alone.
     ghost held = { λ _ _. ⊤ };
 
     ghost checks = { λ s token r z.
         ChecksBy M.did M.does s.memory.now s.passed.now token r z.memory.now z.passed.now
-        × (z.groups.now ≡ s.groups.now) };
+        × (z.groups.now ≡ s.groups.now)
+        × OnOk r (token ≤ z.passed.now)
+        × OnErr r (z.passed.now ≡ s.passed.now) };
 
     ghost frees = { λ s group z. (z.memory.now ≡ s.memory.now) × (z.passed.now ≡ s.passed.now)
         × (z.groups.now ≡ slice_set s.groups.now group Free) };
 
+    // The counters are loaded one after another, up to the first that holds the token. None is loaded
+    // for a token that isn't above the greatest that has passed.
     fn check(&mut self, token: u64) -> Result<(), Busy> {
-        check_token(self.memory, self.passed, token)
+        let has_passed = token <= *self.passed;
+        if has_passed {
+            return Ok(());
+        }
+        for worker in 0..self.memory.counter_count() {
+            let counter = self.memory.load_counter(token, worker);
+            if holds(counter, token) {
+                return Err(Busy { worker, counter });
+            }
+        }
+        *self.passed = token;
+        Ok(())
     }
 
     fn free(&mut self, group: u32) {
         self.groups.release(group);
     }
-}
-
-/// Whether no worker holds any more what was given up under the token; else the first that does. The
-/// counters are loaded one after another, up to that one. None is loaded for a token that isn't above the
-/// greatest that has passed.
-pub(crate) fn check_token<M: Memory>(
-    memory: &mut M,
-    passed: &mut u64,
-    token: u64,
-) -> Result<(), Busy>
-    requires may { (c : InitialState) × (steps : List WriterStep)
-        × M.did memory.old c steps × (passed.old < token → MayLoadCounters c steps token) }
-    ensures checks { ChecksBy M.did M.does memory.old passed.old token result memory.new passed.new }
-    ensures passed { OnOk result (token ≤ passed.new) }
-    ensures stopped { OnErr result (passed.new ≡ passed.old) }
-{
-    if token <= *passed {
-        return Ok(());
-    }
-    for worker in 0..memory.counter_count() {
-        let counter = memory.load_counter(token, worker);
-        if holds(counter, token) {
-            return Err(Busy { worker, counter });
-        }
-    }
-    *passed = token;
-    Ok(())
 }

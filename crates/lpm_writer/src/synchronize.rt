@@ -11,8 +11,9 @@ ghost use Rattle.lpm_writer.specs.Commands.{MayCommand, Rests, IsWaiting};
 
 use super::Exhausted;
 use super::control::{ControlState, LAST_TOKEN};
-use super::grace::check_token;
+use super::grace::Reclaimer;
 use crate::Memory;
+use defer_queue::Grace;
 use lpm_limits::Busy;
 
 /// Starts the token of a synchronize. From then on the control state waits, until `check_synchronize` has
@@ -67,5 +68,10 @@ pub fn check_synchronize<const FIRST: u32, const SECOND: u32, M: Memory>(
     } }
 {
     let token = memory.token();
-    check_token(memory, &mut control.pool.passed, token)
+    let mut grace = Reclaimer {
+        memory,
+        groups: &mut control.pool.groups,
+        passed: &mut control.pool.passed,
+    };
+    grace.check(token)
 }
