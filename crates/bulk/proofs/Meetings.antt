@@ -9,7 +9,7 @@ use Rattle.lpm_trace.specs.Writer.{IsWritten}
 use Rattle.lpm_trace.proofs.Traces.{oldest_all}
 use Rattle.shared_words.specs.Rule.{IsLater}
 use Rattle.shared_words.proofs.Deeds.{between, later_trans}
-use Rattle.shared_fib.specs.RunningTable.{Identity, WriterState, IsAtRest, initial_state, steps_of}
+use Rattle.shared_fib.specs.RunningTable.{Identity, WriterState, Rests, initial_state, steps_of}
 use Rattle.shared_fib.specs.Versions.{updates_begun, updates_done}
 use Rattle.shared_fib.specs.Passes.{PassState, IsHopOfVersion, LooksUp, IsHistory, Makes}
 use Rattle.shared_fib.proofs.Versions.{counts, version_is}
@@ -31,7 +31,7 @@ abbrev pub width_of : WriterState → ℕ
 width_of w = w.identity.initial.first + w.identity.initial.second
 
 -- the answer of a version that stood after all steps of a writer that rests
-rests_answer : (w : WriterState) (addr : ℕ) (hop : Option ℕ) (place k : ℕ) → IsAtRest w → IsWritten (initial_state w.identity) (steps_of w)
+rests_answer : (w : WriterState) (addr : ℕ) (hop : Option ℕ) (place k : ℕ) → Rests w → IsWritten (initial_state w.identity) (steps_of w)
     → IsHopOfVersion w.identity (steps_of w) addr hop place k → length (steps_of w) ≤ place
     → IsLongestHop (width_of w) w.table.rules addr hop
 rests_answer w addr hop place k rest written of late =
@@ -55,7 +55,7 @@ rests_answer w addr hop place k rest written of late =
     subst (λ (R : RuleMap). IsLongestHop (width_of w) R addr hop) rules of.answers
 
 -- a lookup between whose ends a writer that rests has done nothing
-looked_up : (w : WriterState) (addr : ℕ) (hop : Option ℕ) (lo hi : ℕ) (p q : PassState) → IsAtRest w
+looked_up : (w : WriterState) (addr : ℕ) (hop : Option ℕ) (lo hi : ℕ) (p q : PassState) → Rests w
     → IsWritten (initial_state w.identity) (steps_of w) → LooksUp addr hop lo hi p q → p.table ≡ w.identity
     → p.writer_steps ≡ steps_of w → q.writer_steps ≡ steps_of w → IsLongestHop (width_of w) w.table.rules addr hop
 looked_up w addr hop lo hi p q rest written looks own before after =
@@ -188,7 +188,7 @@ desks_twice old middle new len before after k d lt =
 
 -- a pass that meets the writer
 pub met : (w : WriterState) (old new : Desk) (made : List (WorkerStep × ℕ)) → Makes made old.pass new.pass
-    → new.pass.online ≡ false → new.hops ≡ old.hops → new.pass.writer_steps ≡ steps_of w → IsHistory new.pass → IsAtRest w
+    → new.pass.online ≡ false → new.hops ≡ old.hops → new.pass.writer_steps ≡ steps_of w → IsHistory new.pass → Rests w
     → HasMet w old new
 met w old new made step offline hops seen history rests = record {
   same = record { table = step.table; worker = step.worker; offline = offline; later = step.writer_steps };

@@ -5,7 +5,7 @@ use Rattle.lpm_rules.specs.Longest.{AreLongestHops}
 use Rattle.lpm_trace.specs.declared.step.WriterStep.{WriterStep}
 use Rattle.lpm_trace.specs.Writer.{IsWritten}
 use Rattle.shared_words.specs.Rule.{IsLater}
-use Rattle.shared_fib.specs.RunningTable.{Identity, WriterState, IsAtRest, initial_state, steps_of}
+use Rattle.shared_fib.specs.RunningTable.{Identity, WriterState, Rests, initial_state, steps_of}
 use Rattle.shared_fib.specs.Passes.{PassState, IsHistory}
 use Rattle.bulk.specs.declared.desk.Desk.{Desk}
 use Rattle.bulk.specs.Pieces.{piece_of}
@@ -47,12 +47,12 @@ pub record HasMet (w : WriterState) (old new : Desk) : Type 0 where
   pub hops : new.hops ≡ old.hops
   pub writer_steps : new.pass.writer_steps ≡ steps_of w
   pub history : IsHistory new.pass
-  pub rests : IsAtRest w
+  pub rests : Rests w
 
 -- a writer that rests, all of whose steps were seen before the answers, and no other until after them:
 -- they are the next hops by its rules
 abbrev pub AnswersAtRest : Identity → List ℕ → List (Option ℕ) → List WriterStep → List WriterStep → Type 0
-AnswersAtRest id addrs hops before after = (w : WriterState) → w.identity ≡ id → IsAtRest w
+AnswersAtRest id addrs hops before after = (w : WriterState) → w.identity ≡ id → Rests w
     → IsWritten (initial_state w.identity) (steps_of w) → before ≡ steps_of w → after ≡ steps_of w
     → AreLongestHops (w.identity.initial.first + w.identity.initial.second) w.table.rules addrs hops
 

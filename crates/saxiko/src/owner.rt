@@ -17,7 +17,7 @@ ghost use Rattle.lpm_writer.specs.Steps.{Synchronizes};
 ghost use Rattle.shared_fib.specs.FreedGroups.{TakesLeast, FreesChecked};
 ghost use Rattle.shared_words.specs.Rule.{IsLater};
 ghost use Rattle.shared_fib.specs.Passes.{IsBenchOf, IsFullBench, IsPutBack, Makes};
-ghost use Rattle.shared_fib.specs.RunningTable.{IsAtRest, by_steps, initial_writer, passed_of, initial_state, steps_of, token_of};
+ghost use Rattle.shared_fib.specs.RunningTable.{Rests, by_steps, initial_writer, passed_of, initial_state, steps_of, token_of};
 ghost use Rattle.saxiko.specs.Owners.{Registers};
 
 use crate::Reader;
@@ -311,7 +311,7 @@ impl Owner {
     /// its traces are.
     #[inline]
     pub fn at_rest(&self)
-        ensures rests { IsAtRest self.now.writer }
+        ensures rests { Rests self.now.writer }
         ensures widths { HasWidths 24 8 (initial_state self.now.writer.identity) }
     {
         self.table.has_widths();

@@ -2,7 +2,7 @@
 -- "RCU Library").
 use Rattle.std.specs.Prelude.{Bool, List, Option, refl, ℕ, ℤ, ⊤, ◌≡◌, ◌≢◌, ◌-◌, ◌^◌, ◌≤◌, ◌<◌, ◌⊎◌, true, false, pos, [], ◌∷◌, Some, None, Result, length, map, slice_get, slice_set, take}
 use Rattle.std.specs.Coded.{Coded, code_by, coded×, coded_bool, coded_list, coded_option}
-use Rattle.shared_fib.specs.RunningTable.{WriterState, coded_writer, IsAtRest, by_steps, hop_or, initial_writer, initial_state, steps_of, token_of}
+use Rattle.shared_fib.specs.RunningTable.{WriterState, coded_writer, Rests, by_steps, hop_or, initial_writer, initial_state, steps_of, token_of}
 use Rattle.shared_fib.specs.Passes.{PassState, coded_pass, IsBenchOf, IsFullBench, IsPassOf, IsPutBack, LooksUp, Makes}
 use Rattle.std.specs.FinMap.{empty}
 use Rattle.lpm_bits.specs.Network.{prefix_of}
@@ -110,7 +110,7 @@ FreesHeld max freed before after o status p = (r : Reclaimed)
 -- address, and each of the writer's steps so far might come after those before it
 abbrev pub Counts : SaxikoCounts → StagedOwner → ℤ → Type 0
 Counts c o status = (status ≡ success)
-    × IsCounted o.writer.table o.writer.config.groups (token_of o.writer) c × IsAtRest o.writer
+    × IsCounted o.writer.table o.writer.config.groups (token_of o.writer) c × Rests o.writer
 
 -- ---- readers
 

@@ -1,7 +1,7 @@
 //! What the calls do with a running table.
 
 ghost use Rattle.std.specs.Prelude.{◌≡◌, ⊤, MatchResult, true, false};
-ghost use Rattle.shared_fib.specs.RunningTable.{IsAtRest, hop_or, token_of};
+ghost use Rattle.shared_fib.specs.RunningTable.{Rests, hop_or, token_of};
 ghost use Rattle.saxiko_c.specs.Grace.{AsksAtRest, AtRest};
 ghost use Rattle.saxiko_c.specs.Loads.{IsLoadedRunning, IsUnloaded};
 ghost use Rattle.saxiko_c.specs.RunningTable.{AddsTo, Counts, DeletesFrom, Finds, FindsAllIn, FindsAllWithin, FindsBetween, FindsIn, FindsWithin, Flushes, FreesHeld, GivesBack, GoesOffline, GoesOnline, IsInitialWithoutRules, IsRegistered, IsUnregistered, Quiesces};
@@ -143,7 +143,7 @@ pub(crate) fn get_by_writer(owner: &Owner, addr: u32, depth: u8, hop: &mut u32) 
 fn count(running: &mut saxiko::Owner) -> SaxikoCounts
     ensures counted { IsCounted running.old.writer.table running.old.writer.config.groups
         (token_of running.old.writer) result }
-    ensures rests { IsAtRest running.old.writer }
+    ensures rests { Rests running.old.writer }
     ensures same { running.new ≡ running.old }
 {
     running.at_rest();

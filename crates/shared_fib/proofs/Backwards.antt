@@ -14,7 +14,7 @@ use Rattle.lpm_trace.proofs.Promises.{versions_never_fall_at_places}
 use Rattle.shared_words.specs.Rule.{IsLater}
 use Rattle.shared_words.specs.Deeds.{firsts_at, loads_at, seconds_at}
 use Rattle.shared_words.proofs.Deeds.{later_longer}
-use Rattle.shared_fib.specs.RunningTable.{Identity, WriterState, IsAtRest, initial_state, steps_of}
+use Rattle.shared_fib.specs.RunningTable.{Identity, WriterState, Rests, initial_state, steps_of}
 use Rattle.shared_fib.specs.Versions.{updates_begun, updates_done}
 use Rattle.shared_fib.specs.Passes.{PassState, IsHistory}
 use Rattle.shared_fib.proofs.Versions.{counts, oldest_before}
@@ -114,7 +114,7 @@ in_order c steps earlier later old new apart same =
     )
 
 -- a pass that has seen all steps of a writer at rest, from the first step of its lookup to the last
-counted : (w : WriterState) (lo hi begins : ℕ) (p q : PassState) → IsAtRest w → IsHistory q → q.table ≡ w.identity
+counted : (w : WriterState) (lo hi begins : ℕ) (p q : PassState) → Rests w → IsHistory q → q.table ≡ w.identity
     → p.writer_steps ≡ steps_of w → q.writer_steps ≡ steps_of w → length p.writer_steps ≤ begins
     → lo ≡ updates_done (oldest begins q.writer_steps) → hi ≡ updates_begun q.writer_steps
     → (lo ≡ w.table.updates_begun) × (hi ≡ w.table.updates_begun)

@@ -13,7 +13,7 @@ use Rattle.shared_words.specs.declared.view.View.{View}
 use Rattle.shared_words.specs.Layout.{InitialData, initial_state_of}
 use Rattle.shared_words.specs.Seats.{AreChecked}
 use Rattle.shared_fib.specs.LentSeats.{token_by, LentSeat, SharedDid, SharedDoes}
-use Rattle.shared_fib.specs.RunningTable.{OnlySees, WriterState, Identity, IsAtRest, initial_state}
+use Rattle.shared_fib.specs.RunningTable.{OnlySees, WriterState, Identity, Rests, initial_state}
 use Rattle.shared_fib.proofs.TokenChecks.{looked, token_checked}
 use Rattle.lpm_cells.specs.Words.{entry_at}
 use Rattle.lpm_limits.specs.declared.config.Config.{Config}
@@ -87,7 +87,7 @@ writer_of id config rules steps pool begun =
 
 pub at_rest : (f s : ℕ) (id : Identity) (config : Config) (rules : RuleList) (steps : List WriterStep)
     (pool : GroupPool) (begun : ℕ) → IsWritten (initial_state id) steps → IsResting f s (initial_state id) steps config rules pool begun
-    → IsAtRest (writer_of id config rules steps pool begun)
+    → Rests (writer_of id config rules steps pool begun)
 at_rest f s id config rules steps pool begun written rests =
     let c : InitialState = initial_state id in
     let w = state_after c steps in

@@ -7,7 +7,7 @@ use Rattle.lpm_trace.specs.States.{InitialState, IsAnswer, updates_done_in, upda
 use Rattle.lpm_trace.specs.Trace.{FinishedLookup, IsBetweenDeeds, worker_by}
 use Rattle.lpm_trace.specs.Laws.{IsLegalAtPlace}
 use Rattle.shared_words.specs.Rule.{IsLater}
-use Rattle.shared_fib.specs.RunningTable.{WriterState, IsAtRest, initial_state, steps_of}
+use Rattle.shared_fib.specs.RunningTable.{WriterState, Rests, initial_state, steps_of}
 use Rattle.shared_fib.specs.Passes.{PassState, IsHistory, LooksUp, LooksUpAll}
 
 -- ---- versions
@@ -78,7 +78,7 @@ IsLookedUp lo hi p q = ((addr : ℕ) × (hop : Option ℕ) × LooksUp addr hop l
 -- a lookup of a pass that has met the writer, at rest, before and again after it, while the writer has made
 -- no step: `lo` and `hi` are both the number of the versions
 abbrev pub LookupsCountVersions : Type 0
-LookupsCountVersions = (writer : WriterState) (lo hi : ℕ) (p q : PassState) → IsAtRest writer
+LookupsCountVersions = (writer : WriterState) (lo hi : ℕ) (p q : PassState) → Rests writer
     → IsLookedUp lo hi p q → IsHistory q → q.table ≡ writer.identity
     → p.writer_steps ≡ steps_of writer → q.writer_steps ≡ steps_of writer
     → (lo ≡ writer.table.updates_begun) × (hi ≡ writer.table.updates_begun)

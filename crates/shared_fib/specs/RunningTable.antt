@@ -17,7 +17,7 @@ use Rattle.lpm_trace.specs.Trace.{worker_by, Phase, Offline, Online}
 use Rattle.lpm_writer.specs.declared.control.ControlState.{ControlState}
 use Rattle.lpm_writer.specs.Steps.{by_steps_from, StoresOnce}
 use Rattle.lpm_writer.specs.GroupsMatch.{IsLimbo}
-use Rattle.lpm_writer.specs.Commands.{Rests}
+use Rattle.lpm_writer.specs.Commands as commands
 use Rattle.lpm_writer.specs.Rest.{state_of}
 use Rattle.shared_words.specs.declared.layout.Layout.{Layout}
 use Rattle.shared_words.specs.declared.view.View.{View}
@@ -82,7 +82,7 @@ by_steps initial = by_steps_from initial.workers initial.token
 -- each of the writer's steps might come after those before it, and no update runs; the versions are those
 -- that were done, the rules are those of the last one, and by them the words answer each address; the groups
 -- that wait are those that the steps retired; and in no update was a word stored twice
-pub record IsAtRest (w : WriterState) : Type 0 where
+pub record Rests (w : WriterState) : Type 0 where
   pub written : IsWritten (initial_state w.identity) (steps_of w)
   pub done : updates_done_in (state_of_writer w) ≡ w.table.updates_begun
   pub begun : updates_begun_in (state_of_writer w) ≡ w.table.updates_begun
@@ -108,7 +108,7 @@ state_by control v = state_of control.rules.rules v.writer_steps control.pool co
 -- A writer between its commands: after the steps of its seat the control state rests, and the tokens are
 -- not past their bound
 pub record IsSoundWriter (first second : ℕ) (control : ControlState first second) (v : View) : Type 0 where
-  pub rests : Rests (initial_state_of v.initial) v.writer_steps control
+  pub rests : commands.Rests (initial_state_of v.initial) v.writer_steps control
   pub token : (state_after (initial_state_of v.initial) v.writer_steps).token ≤ 2 ^ 62
 
 -- of what the seat knows only the writer's steps have changed

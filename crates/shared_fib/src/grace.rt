@@ -77,7 +77,7 @@ fn start_token<const FIRST: u32, const SECOND: u32>(
 {
     let mut memory = SharedMemory::new(table, seat);
     let came = start_synchronize(control, &mut memory);
-    memory.done();
+    memory.into_seat();
     came
 }
 
@@ -108,7 +108,7 @@ fn check_started_token<const FIRST: u32, const SECOND: u32>(
 {
     let mut memory = SharedMemory::new(table, seat);
     let came = check_synchronize(control, &mut memory);
-    memory.done();
+    memory.into_seat();
     came
 }
 

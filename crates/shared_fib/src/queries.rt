@@ -6,7 +6,7 @@ ghost use Rattle.fib_model.specs.Outcomes.{groups_in_use};
 ghost use Rattle.lpm_limits.specs.Limits.{IsConfig};
 ghost use Rattle.lpm_rules.specs.Longest.{IsMatch};
 ghost use Rattle.lpm_rules.specs.RuleMap.{IsNextRule};
-ghost use Rattle.shared_fib.specs.RunningTable.{IsAtRest, token_of};
+ghost use Rattle.shared_fib.specs.RunningTable.{Rests, token_of};
 
 use crate::{SharedTable, Writer};
 use lpm_bits::{Hop, Prefix};
@@ -50,7 +50,7 @@ impl<const FIRST: u32, const SECOND: u32> Writer<FIRST, SECOND> {
     /// which led there are lawful.
     #[inline]
     pub fn table_rests(&self)
-        ensures { IsAtRest self.now }
+        ensures { Rests self.now }
     {
         self.seat.steps_are_lawful();
     }

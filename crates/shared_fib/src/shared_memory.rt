@@ -59,7 +59,7 @@ impl<'a, const FIRST: u32, const SECOND: u32> SharedMemory<'a, FIRST, SECOND> {
     }
 
     /// The seat, which has made the steps of all that was called. They are lawful.
-    pub fn done(self) -> &'a mut WriterSeat
+    pub fn into_seat(self) -> &'a mut WriterSeat
         ensures name { result.ghost_name ≡ self.entry.name }
         ensures table { result.now.table ≡ self.entry.table }
         ensures view { result.now.view ≡ self.entry.view }

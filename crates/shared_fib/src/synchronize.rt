@@ -115,7 +115,7 @@ fn synchronize_by<const FIRST: u32, const SECOND: u32, R: Wait>(
 {
     let mut memory = SharedMemory::new(table, seat);
     let came = start_and_check(rt, control, &mut memory);
-    memory.done();
+    memory.into_seat();
     seat.steps_are_lawful();
     came
 }

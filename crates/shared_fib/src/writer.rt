@@ -91,7 +91,7 @@ impl<const FIRST: u32, const SECOND: u32> Writer<FIRST, SECOND> {
         let seat = &mut self.seat;
         let mut memory = SharedMemory::new(&table.words, seat);
         let added = add_rule(&mut self.control, &mut memory, prefix, hop);
-        memory.done();
+        memory.into_seat();
         let _ = &*seat;
         added
     }
@@ -118,7 +118,7 @@ impl<const FIRST: u32, const SECOND: u32> Writer<FIRST, SECOND> {
         let seat = &mut self.seat;
         let mut memory = SharedMemory::new(&table.words, seat);
         let deleted = delete_rule(&mut self.control, &mut memory, prefix);
-        memory.done();
+        memory.into_seat();
         let _ = &*seat;
         deleted
     }
@@ -139,7 +139,7 @@ impl<const FIRST: u32, const SECOND: u32> Writer<FIRST, SECOND> {
         let seat = &mut self.seat;
         let mut memory = SharedMemory::new(&table.words, seat);
         let flushed = flush_rules(&mut self.control, &mut memory);
-        memory.done();
+        memory.into_seat();
         let _ = &*seat;
         flushed
     }
@@ -159,7 +159,7 @@ impl<const FIRST: u32, const SECOND: u32> Writer<FIRST, SECOND> {
         let seat = &mut self.seat;
         let mut memory = SharedMemory::new(&table.words, seat);
         let reclaimed = reclaim_groups(&mut self.control, &mut memory, max);
-        memory.done();
+        memory.into_seat();
         let _ = &*seat;
         reclaimed
     }

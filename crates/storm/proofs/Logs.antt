@@ -17,7 +17,7 @@ use Rattle.fib_model.specs.declared.orders.Outcome.{Outcome}
 use Rattle.lpm_writer.specs.GroupToFill.{HasWidths}
 use Rattle.lpm_rules.specs.RuleMap.{RuleMap}
 use Rattle.lpm_rules.specs.declared.Change.{Change}
-use Rattle.shared_fib.specs.RunningTable.{Identity, IsAtRest, WriterState, initial_writer, initial_state}
+use Rattle.shared_fib.specs.RunningTable.{Identity, Rests, WriterState, initial_writer, initial_state}
 use Rattle.storm.specs.Writer.{HasMade, HasVersions, IsForWriter, IsInitial, by_own_steps, change_by, changes_by}
 use Rattle.storm.proofs.Versions.{append_nil, versions_next, versions_none}
 use Rattle.defer_queue.specs.Reclaims as queue
@@ -110,18 +110,18 @@ module _ (f s : ℕ) where
       ∙ sym (append_assoc (change_by y x) (changes_by cs os) (change_by c o))
 
   -- a table that was just opened with some rules has them as its first ones
-  pub first_rules : (id : Identity) (config : Config) (R : RuleMap) (w : WriterState) → w ≡ initial_writer id config R → IsAtRest w
+  pub first_rules : (id : Identity) (config : Config) (R : RuleMap) (w : WriterState) → w ≡ initial_writer id config R → Rests w
       → id.initial.rules ≡ R
-  first_rules id config R w new rests = (subst IsAtRest new rests).rules
+  first_rules id config R w new rests = (subst Rests new rests).rules
 
   -- of such a table no command was made
   pub made_none : (id : Identity) (config : Config) (R : RuleMap) (cs : List (Order f s)) (os : List Outcome) (w : WriterState)
       → HasWidths f s (initial_state id) → id.initial.token ≡ config.first_token → id.initial.workers ≡ config.workers
-      → w ≡ initial_writer id config R → IsAtRest w → os ≡ [] → HasMade id config cs os w
+      → w ≡ initial_writer id config R → Rests w → os ≡ [] → HasMade id config cs os w
   made_none id config R cs os w widths token workers new rests none =
       let first : WriterState = initial_writer id config id.initial.rules in
       let is : w ≡ first = new ∙ ap (initial_writer id config) (sym (first_rules id config R w new rests)) in
-      let opened : IsInitial f s config id = record { widths = widths; token = token; workers = workers; rests = subst IsAtRest is rests } in
+      let opened : IsInitial f s config id = record { widths = widths; token = token; workers = workers; rests = subst Rests is rests } in
       let nothing : HasMade id config cs [] first = record {
         opened = opened;
         identity = refl;
@@ -135,7 +135,7 @@ module _ (f s : ℕ) where
   pub made_next : (id : Identity) (config : Config) (cs : List (Order f s)) (os : List Outcome) (c : Order f s) (o : Outcome)
       (w z : WriterState) → length os < length cs → c ≡ get_or cs (length os) c → HasMade id config cs os w
       → Does (by_own_steps id.initial) f s w.config w.table c o z.table → z.identity ≡ w.identity → z.config ≡ w.config
-      → IsForWriter c → IsAtRest z → HasMade id config cs (os ++ o ∷ []) z
+      → IsForWriter c → Rests z → HasMade id config cs (os ++ o ∷ []) z
   made_next id config cs os c o w z low at h does own limits mine rests = record {
     opened = h.opened;
     identity = own ∙ h.identity;

@@ -30,7 +30,7 @@ use Rattle.lpm_trace.specs.States.{InitialState, TableState, updates_begun_in, s
 use Rattle.lpm_trace.specs.Trace.{FinishedLookup}
 use Rattle.lpm_trace.proofs.Traces.{begun_grows}
 use Rattle.lpm_writer.specs.GroupToFill.{HasWidths}
-use Rattle.shared_fib.specs.RunningTable.{Identity, IsAtRest, WriterState, state_of_writer, initial_writer, initial_state, steps_of, by_steps}
+use Rattle.shared_fib.specs.RunningTable.{Identity, Rests, WriterState, state_of_writer, initial_writer, initial_state, steps_of, by_steps}
 use Rattle.shared_fib.proofs.Backwards.{versions_stay}
 use Rattle.storm.specs.Workers.{IsOfAStandingVersion, answer_of}
 use Rattle.storm.specs.Storm.{Settles}
@@ -238,7 +238,7 @@ module _ (f g : ℕ) where
   all_changes R changes k le = ap (rules_after R) (take_all k changes le)
 
   module _ (R : RuleMap) (id : Identity) (w z : WriterState) (before change : List (Change f g)) (has : HasVersions R w before)
-      (own : w.identity ≡ id) (own' : z.identity ≡ id) (later : IsLater (steps_of w) (steps_of z)) (rests : IsAtRest z)
+      (own : w.identity ≡ id) (own' : z.identity ≡ id) (later : IsLater (steps_of w) (steps_of z)) (rests : Rests z)
       (came : Comes w.table z.table change) where
     count_now : z.table.updates_begun ≡ length (before ++ change)
     count_now = let e : z.table.updates_begun ≡ w.table.updates_begun + length change = came.begun in omega (arith, e, has.count, length-append before change)
@@ -280,7 +280,7 @@ module _ (f g : ℕ) where
     }
 
   pub versions_next : (R : RuleMap) (id : Identity) (config : Config) (w z : WriterState) (before : List (Change f g)) (order : Order f g) (out : Outcome)
-      → HasVersions R w before → w.identity ≡ id → z.identity ≡ id → IsForWriter order → IsAtRest z
+      → HasVersions R w before → w.identity ≡ id → z.identity ≡ id → IsForWriter order → Rests z
       → Does (by_own_steps id.initial) f g config w.table order out z.table → HasVersions R z (before ++ change_by order out)
   unfolding by_steps
   versions_next R id config w z before order out has own own' mine rests does =

@@ -4,7 +4,7 @@ use Rattle.lpm_limits.specs.declared.config.Config.{Config}
 use Rattle.lpm_limits.specs.Limits.{IsConfig}
 use Rattle.lpm_rules.specs.RuleMap.{rules_of}
 use Rattle.fib_model.specs.declared.orders.Outcome.{Outcome}
-use Rattle.shared_fib.specs.RunningTable.{Identity, WriterState, token_of, IsAtRest, by_steps, steps_of}
+use Rattle.shared_fib.specs.RunningTable.{Identity, WriterState, token_of, Rests, by_steps, steps_of}
 use Rattle.storm.specs.declared.plan.Plan.{Plan}
 use Rattle.storm.specs.declared.plan.StormError.{StormError}
 use Rattle.storm.specs.Writer.{HasMade, changes_by, refused_among}
@@ -88,7 +88,7 @@ pub record Settles (id : Identity) (last end : WriterState) : Type 0 where
   pub frees : Frees (by_steps id.initial) passed.table (length last.table.limbo) reclaimed end.table
   pub identity : end.identity ≡ id
   pub config : end.config ≡ last.config
-  pub rests : IsAtRest end
+  pub rests : Rests end
   pub emptied : end.table.limbo ≡ []
 
 -- the report has what a table counts that has so many groups in all and this newest token

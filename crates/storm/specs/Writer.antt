@@ -19,7 +19,7 @@ use Rattle.lpm_trace.specs.declared.step.WriterStep.{WriterStep}
 use Rattle.lpm_trace.specs.States.{updates_begun_in}
 use Rattle.lpm_writer.specs.GroupToFill.{HasWidths}
 use Rattle.shared_words.specs.Layout.{InitialData}
-use Rattle.shared_fib.specs.RunningTable.{Identity, IsAtRest, WriterState, by_steps, state_of_writer, initial_writer, initial_state}
+use Rattle.shared_fib.specs.RunningTable.{Identity, Rests, WriterState, by_steps, state_of_writer, initial_writer, initial_state}
 use Rattle.audit.specs.Wrong.{version_from}
 
 -- the writer's steps stand for what the readers reported; no report is made to the writer itself
@@ -76,7 +76,7 @@ pub record IsInitial (first second : ℕ) (config : Config) (id : Identity) : Ty
   pub widths : HasWidths first second (initial_state id)
   pub token : id.initial.token ≡ config.first_token
   pub workers : id.initial.workers ≡ config.workers
-  pub rests : IsAtRest (initial_writer id config id.initial.rules)
+  pub rests : Rests (initial_writer id config id.initial.rules)
 
 -- a table was opened with these limits; then its writer made as many of these commands as there are
 -- outcomes, in order, which came out so, and left it like this, with the versions of the accepted changes

@@ -14,10 +14,10 @@ returns g c =
     starts (initial_state_of v.initial) v.writer_steps m.ensures.did c.requires.ready.rests) in
     let name : ran.new.memory.name ≡ m.result.name = either ran.result came ran.ensures.unchanged (λ h. h.2.0.name)
     (ap (λ (l : LentSeat). l.name)) in
-    let knows : ran.new.memory.view ≡ c.seat-1.given.0.view = search (rules, c.seat-1, name, m.ensures, c.done.ensures) in
-    let at : ran.new.memory.table ≡ c.seat-1.given.0.table = search (rules, c.seat-1, name, m.ensures, c.done.ensures) in
+    let knows : ran.new.memory.view ≡ c.seat-1.given.0.view = search (rules, c.seat-1, name, m.ensures, c.into_seat.ensures) in
+    let at : ran.new.memory.table ≡ c.seat-1.given.0.table = search (rules, c.seat-1, name, m.ensures, c.into_seat.ensures) in
     let led = starts g.row.FIRST g.row.SECOND c.args.control.now c.args.control.now v _ m.result ran.new.memory m.ensures.view knows
-    c.done.ensures.token c.done.ensures.updates ran.result ran.ensures.exhausted came ran.ensures.unchanged in
+    c.into_seat.ensures.token c.into_seat.ensures.updates ran.result ran.ensures.exhausted came ran.ensures.unchanged in
     record {
       exhausted = led.exhausted;
       started = led.started;

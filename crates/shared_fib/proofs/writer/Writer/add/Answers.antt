@@ -8,11 +8,11 @@ invariant_of-self g c =
     let m = c.new-memory in
     let some = added g.row.FIRST g.row.SECOND c.self.inside.control ran.new.control c.self.inside.seat.view m.result ran.new.memory
     m.ensures.did c.self.invariant.rests c.self.inside.seat.table m.ensures.table m.ensures.view ran.ensures.config
-    c.done.ensures.lawful c.done.ensures.token c.args.self.now c.args.table.now c.self.view_is c.requires.own
+    c.into_seat.ensures.lawful c.into_seat.ensures.token c.args.self.now c.args.table.now c.self.view_is c.requires.own
     c.args.prefix.now c.args.hop ran.result ran.ensures.adds ran.ensures.least in
     let name = some.1.name in
-    let seat = some.1.at_seat c.seat-2-1.given.0.table c.seat-2-1.given.0.view (search (rules, c.seat-2-1, name, m.ensures, c.done.ensures))
-    (search (rules, c.seat-2-1, name, m.ensures, c.done.ensures)) in
+    let seat = some.1.at_seat c.seat-2-1.given.0.table c.seat-2-1.given.0.view (search (rules, c.seat-2-1, name, m.ensures, c.into_seat.ensures))
+    (search (rules, c.seat-2-1, name, m.ensures, c.into_seat.ensures)) in
     seat.0
 
 pub returns : goal.returns
@@ -21,10 +21,10 @@ returns g c =
     let m = c.new-memory in
     let some = added g.row.FIRST g.row.SECOND c.self.inside.control ran.new.control c.self.inside.seat.view m.result ran.new.memory
     m.ensures.did c.self.invariant.rests c.self.inside.seat.table m.ensures.table m.ensures.view ran.ensures.config
-    c.done.ensures.lawful c.done.ensures.token c.args.self.now c.args.table.now c.self.view_is c.requires.own
+    c.into_seat.ensures.lawful c.into_seat.ensures.token c.args.self.now c.args.table.now c.self.view_is c.requires.own
     c.args.prefix.now c.args.hop ran.result ran.ensures.adds ran.ensures.least in
     let name = some.1.name in
-    let seat = some.1.at_seat c.seat-2-1.given.0.table c.seat-2-1.given.0.view (search (rules, c.seat-2-1, name, m.ensures, c.done.ensures))
-    (search (rules, c.seat-2-1, name, m.ensures, c.done.ensures)) in
+    let seat = some.1.at_seat c.seat-2-1.given.0.table c.seat-2-1.given.0.view (search (rules, c.seat-2-1, name, m.ensures, c.into_seat.ensures))
+    (search (rules, c.seat-2-1, name, m.ensures, c.into_seat.ensures)) in
     let led = seat.1 in
     record { adds = led.outcome.0; least = led.outcome.1; checked = (some.0, led.checked); later = led.later; own = led.own; config = led.config }
