@@ -583,7 +583,7 @@ PLANTS = [
     Plant("docs/BENCHMARKS.md", "figures/job.svg", "figures/jobs.svg", "leads to no file: figures/jobs.svg"),
     Plant("docs/ARCHITECTURE.md", "`Fib::delete`", "`Fib::forget`", "no such call: Fib::forget"),
     Plant("docs/ARCHITECTURE.md", "Update::delete  ", "Update::forget  ", "no such call: Update::forget"),
-    Plant("docs/ARCHITECTURE.md", "|   is_exhausted", "|   is_spent", "is_spent"),
+    Plant("docs/ARCHITECTURE.md", "take_front, ", "take_oldest, ", "take_oldest"),
 ]
 
 

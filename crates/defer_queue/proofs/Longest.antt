@@ -1,5 +1,5 @@
 -- A reclaim takes the longest front that passes, where a check's answer stays what it is meanwhile.
-use Rattle.std.proofs.Common.{arith, ℕ, zero, suc, ◌≡◌, ◌+◌, ◌≤◌, List, [], ◌∷◌, length, drop, refl, add-one, ◌-◌, ◌⊎◌, inl, inr, take, ap, ◌∙◌, length-drop, subst}
+use Rattle.std.proofs.Common.{arith, ℕ, zero, suc, ◌≡◌, ◌+◌, ◌≤◌, List, [], ◌∷◌, length, drop, refl, add-one, ◌-◌, ◌⊎◌, inl, inr, take, ap, ◌∙◌, length-drop}
 use Rattle.std.specs.Prelude.{slice_get, MatchOption, Option, Result, Ok, All, Err, Some, None, IsSomeAnd}
 use Rattle.lpm_limits.specs.declared.busy.Busy.{Busy}
 use Rattle.defer_queue.specs.Reclaims.{FreesFront, Reclaims}
@@ -111,9 +111,3 @@ module _ {S : Type 0} (checks : S → ℕ → Result (Unit {0}) Busy → S → T
         passed = t.passed;
         end = (r.end.0, held n items left item busy t.rest (checked r.last item.1 (Err busy) z t.still r.end.1).1);
       }
-
-pub front_is : (xs : List (ℕ × ℕ)) (item : ℕ × ℕ) → slice_get xs 0 ≡ Some item → xs ≡ item ∷ drop 1 xs
-front_is xs item e = subst (λ o. MatchOption o (xs ≡ []) (λ i. xs ≡ i ∷ drop 1 xs)) e (front_rest xs)
-
-pub no_front : (xs : List (ℕ × ℕ)) → slice_get xs 0 ≡ None → xs ≡ []
-no_front xs e = subst (λ o. MatchOption o (xs ≡ []) (λ i. xs ≡ i ∷ drop 1 xs)) e (front_rest xs)

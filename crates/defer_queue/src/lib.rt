@@ -145,7 +145,7 @@ impl DeferQueue {
     {
         let mut freed = 0;
         while freed < max {
-            let Some((group, token)) = self.items.front().copied() else {
+            let Some((group, token)) = self.front() else {
                 break;
             };
             if let Err(busy) = grace.check(token) {
@@ -154,7 +154,7 @@ impl DeferQueue {
                     stopped: Some(busy),
                 };
             }
-            let _ = self.items.pop_front();
+            self.take_front();
             grace.free(group);
             freed += 1;
         }

@@ -13,7 +13,8 @@ use lpm_groups::Groups;
 use lpm_limits::Busy;
 use qsbr::holds;
 
-/// What a reclaim checks by and frees: a memory, the groups, and the greatest token that has passed.
+/// What a check of a token and a reclaim are made on: a memory, the groups, and the greatest token that
+/// has passed.
 #[derive(Drop)]
 pub(crate) struct Reclaimer<'a, M> {
     pub(crate) memory: &'a mut M,
