@@ -3,7 +3,7 @@ ghost use Rattle.std.specs.Prelude.{◌≡◌, ◌<◌, true};
 ghost use Rattle.std.specs.Thread.{IsSync};
 
 use super::asserts::assert_at;
-use super::changes::{SmallTable, SmallWriter};
+use super::changes::{SmallTable, SmallWriter, close};
 use lpm_bits::{Hop, Prefix};
 use lpm_limits::Config;
 use lpm_rules::Answer;
@@ -227,6 +227,14 @@ fn add_cover(rt: &impl Abort, table: &SmallTable, writer: &mut SmallWriter, rule
     assert!(rt; writer.add(table, &prefix, hop).is_ok());
 }
 
+// All changes were made, no answer was wrong, and each pass looked up beside the changes.
+fn assert_looked(rt: &impl Abort, made: u64, by_one: &Looked, by_other: &Looked) {
+    assert_at(rt, "changes", made, CHANGES);
+    assert_at(rt, "wrong", (by_one.wrong, by_other.wrong), (0, 0));
+    assert!(rt; by_one.saw_last && by_other.saw_last);
+    assert!(rt; by_one.beside >= BESIDE && by_other.beside >= BESIDE);
+}
+
 #[test]
 fn lookups_beside_updates(rt: HostRuntime) {
     let rules = three_rules(&rt);
@@ -244,8 +252,6 @@ fn lookups_beside_updates(rt: HostRuntime) {
         &mut one,
         &mut other,
     );
-    assert_at(&rt, "changes", made, CHANGES);
-    assert_at(&rt, "wrong", (by_one.wrong, by_other.wrong), (0, 0));
-    assert!(rt; by_one.saw_last && by_other.saw_last);
-    assert!(rt; by_one.beside >= BESIDE && by_other.beside >= BESIDE);
+    assert_looked(&rt, made, &by_one, &by_other);
+    close(table, writer, bench);
 }

@@ -3,7 +3,9 @@ ghost use Rattle.std.specs.Prelude.{◌≡◌, true, false};
 ghost use Rattle.shared_fib.specs.Passes.{IsBenchOf};
 
 use super::asserts::assert_at;
-use super::changes::{Ipv4Table, Ipv4Writer, SMALL, SmallTable, SmallWriter, change, figures};
+use super::changes::{
+    Ipv4Table, Ipv4Writer, SMALL, SmallTable, SmallWriter, change, close, figures,
+};
 use defer_queue::Reclaimed;
 use fib::Fib;
 use lpm_bits::Shape;
@@ -38,6 +40,7 @@ fn meet_then_lookup(rt: HostRuntime) -> Result<(), Fail> {
     let (table, mut writer, mut bench) = open::<24, 8>(rt.alloc(), Config::default())?;
     let mut pass = bench.register(&table, 0).expect(&rt, "a pass");
     meet_and_look_up(&rt, &table, &mut writer, &mut pass);
+    close(table, writer, bench);
     Ok(())
 }
 
@@ -159,6 +162,7 @@ fn play_small<R: Wait + Abort>(
 fn open_and_play<R: Wait + Abort>(rt: &R, alloc: Global, config: Config, what: Play) {
     let (table, mut writer, mut bench) = open::<4, 4>(alloc, config).expect(rt, "memory");
     play_small(rt, &table, &mut writer, &mut bench, what);
+    close(table, writer, bench);
 }
 
 #[test]
@@ -222,6 +226,7 @@ fn hold_and_register_again(
 fn held_group(rt: HostRuntime) -> Result<(), Fail> {
     let (table, mut writer, mut bench) = open::<24, 8>(rt.alloc(), SMALL)?;
     hold_and_register_again(&rt, &table, &mut writer, &mut bench);
+    close(table, writer, bench);
     Ok(())
 }
 
@@ -261,6 +266,7 @@ fn two_workers(rt: HostRuntime) -> Result<(), Fail> {
     let mut zero = bench.register(&table, 0).expect(&rt, "a pass");
     let mut one = bench.register(&table, 1).expect(&rt, "a pass");
     hold_by_two(&rt, &table, &mut writer, &mut zero, &mut one);
+    close(table, writer, bench);
     Ok(())
 }
 
@@ -309,6 +315,7 @@ fn lookup4_by_a_pass(rt: HostRuntime) -> Result<(), Fail> {
     let (table, mut writer, mut bench) = open::<24, 8>(rt.alloc(), Config::default())?;
     let mut pass = bench.register(&table, 0).expect(&rt, "a pass");
     look_up_four(&rt, &table, &mut writer, &mut pass);
+    close(table, writer, bench);
     Ok(())
 }
 
@@ -368,4 +375,5 @@ fn going_live(rt: HostRuntime) {
     let (table, mut writer, mut bench) = go_live(rt.alloc(), fib).expect(&rt, "memory");
     let mut pass = bench.register(&table, 0).expect(&rt, "a pass");
     look_up_and_delete(&rt, &table, &mut writer, &mut pass);
+    close(table, writer, bench);
 }

@@ -5,7 +5,7 @@ ghost use Rattle.lpm_bits.specs.Widths.{IsShape};
 use super::asserts::assert_at;
 use lpm_limits::Config;
 use lpm_rules::Rule;
-use shared_fib::{SharedTable, Writer};
+use shared_fib::{Bench, SharedTable, Writer};
 use std::process::Abort;
 use test_support::{Change, Figures, Plain, USUAL, figures_with, rule_of};
 
@@ -56,4 +56,16 @@ pub(crate) fn figures<const FIRST: u32, const SECOND: u32>(
         writer.counts(),
         writer.token(table),
     )
+}
+
+/// Gives back what a running table takes. A test that ends with this call needs no proof of its own of how
+/// each part is dropped.
+pub(crate) fn close<const FIRST: u32, const SECOND: u32>(
+    table: SharedTable<FIRST, SECOND>,
+    writer: Writer<FIRST, SECOND>,
+    bench: Bench,
+) {
+    drop(bench);
+    drop(writer);
+    drop(table);
 }

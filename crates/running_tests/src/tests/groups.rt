@@ -3,7 +3,7 @@
 ghost use Rattle.std.specs.Prelude.{◌≡◌, ◌<◌, true, false};
 
 use super::asserts::assert_at;
-use super::changes::{SMALL, SmallTable, SmallWriter, change, figures};
+use super::changes::{SMALL, SmallTable, SmallWriter, change, close, figures};
 use fib::Fib;
 use lpm_rules::Rule;
 use shared_fib::{Pass, open};
@@ -217,6 +217,7 @@ fn play_by_table(
 fn play_fib(rt: &impl Abort, alloc: Global, case: &Case) {
     let mut fib = Fib::<4, 4>::open(alloc, SMALL).expect(rt, "memory");
     play_by_fib(rt, &mut fib, case);
+    drop(fib);
 }
 
 // The case, by a table of one thread that was just opened, and by a running one.
@@ -226,6 +227,7 @@ fn play(rt: &impl Abort, alloc: Global, case: &Case) {
     let (table, mut writer, mut bench) = open::<4, 4>(alloc, SMALL).expect(rt, "memory");
     let mut pass = bench.register(&table, 0).expect(rt, "a pass");
     play_by_table(rt, &table, &mut writer, &mut pass, case);
+    close(table, writer, bench);
 }
 
 #[test]

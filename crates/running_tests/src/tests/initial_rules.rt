@@ -5,7 +5,7 @@ ghost use Rattle.lpm_bits.specs.Widths.{IsShape};
 ghost use Rattle.lpm_rules.specs.RuleMap.{AreInOrder};
 
 use super::asserts::assert_at;
-use super::changes::{Ipv4Table, Ipv4Writer, SmallTable, SmallWriter, change, figures};
+use super::changes::{Ipv4Table, Ipv4Writer, SmallTable, SmallWriter, change, close, figures};
 use fib::Fib;
 use lpm_rules::Rule;
 use lpm_sweep::{MOST_SORTED, in_order};
@@ -69,6 +69,7 @@ fn routes_at_once(rt: HostRuntime) {
     let (table, mut writer, mut bench) = opened.expect(&rt, "room");
     let mut pass = bench.register(&table, 0).expect(&rt, "a pass");
     play(&rt, &table, &mut writer, &mut pass);
+    close(table, writer, bench);
 }
 
 // The rules, which may stand in any order, in the order of their prefixes.
@@ -83,10 +84,8 @@ fn sorted(rt: &impl Abort, alloc: Global, rules: &[Rule<4, 4>]) -> Vec<Rule<4, 4
 fn assert_opens(rt: &impl Abort, alloc: Global, opening: &Opening) {
     let (plain, config, opens) = *opening;
     let rules = rules_of::<4, 4>(alloc, plain).expect(rt, "rules");
-    let found = match open_sorted(alloc, config, sorted(rt, alloc, &rules)) {
-        Ok(table) => Ok(table.is_some()),
-        Err(error) => Err(error),
-    };
+    let opened = open_sorted(alloc, config, sorted(rt, alloc, &rules));
+    let found = opened.map(|table| table.is_some());
     assert_at(rt, config, found, opens);
 }
 
@@ -129,6 +128,7 @@ fn assert_running(rt: &impl Abort, alloc: Global, fib: &Fib<4, 4>, rules: Vec<Ru
     let (table, mut writer, mut bench) = opened.expect(rt, "room");
     let mut pass = bench.register(&table, 0).expect(rt, "a pass");
     assert_same(rt, fib, &table, &mut writer, &mut pass);
+    close(table, writer, bench);
 }
 
 fn assert_list(rt: &impl Abort, alloc: Global, rules: &[Rule<4, 4>]) {
@@ -136,6 +136,7 @@ fn assert_list(rt: &impl Abort, alloc: Global, rules: &[Rule<4, 4>]) {
     let opened = Fib::of_sorted(alloc, AMPLE, &sorted).expect(rt, "memory");
     let fib = opened.expect(rt, "room");
     assert_running(rt, alloc, &fib, sorted);
+    drop(fib);
 }
 
 // Lists of no rule, of one, and so on, and this ten times.

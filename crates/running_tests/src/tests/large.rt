@@ -3,7 +3,7 @@
 ghost use Rattle.std.specs.Prelude.{◌≡◌, ◌<◌, false, true};
 
 use super::asserts::assert_at;
-use super::changes::{Ipv4Table, Ipv4Writer, change, figures};
+use super::changes::{Ipv4Table, Ipv4Writer, change, close, figures};
 use shared_fib::{Pass, open, open_sorted};
 use std::process::Abort;
 use std::test::Fail;
@@ -61,6 +61,7 @@ fn many_routes(rt: HostRuntime) -> Result<(), Fail> {
     assert_figures(&rt, &table, &mut writer, 300_000);
     let mut pass = bench.register(&table, 2_047).expect(&rt, "a pass");
     look_all_up(&rt, &table, &mut pass);
+    close(table, writer, bench);
     Ok(())
 }
 
@@ -74,4 +75,5 @@ fn many_routes_at_once(rt: HostRuntime) {
     let mut pass = bench.register(&table, 2_047).expect(&rt, "a pass");
     look_all_up(&rt, &table, &mut pass);
     look_first_halves_up(&rt, &table, &mut pass);
+    close(table, writer, bench);
 }

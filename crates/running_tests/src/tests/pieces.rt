@@ -4,9 +4,10 @@ ghost use Rattle.bulk.specs.Desks.{IsDeskOf};
 ghost use Rattle.shared_fib.specs.Passes.{IsFullBench};
 
 use super::asserts::assert_at;
-use super::changes::{Ipv4Table, Ipv4Writer, SmallTable, SmallWriter};
+use super::changes::{Ipv4Table, Ipv4Writer, SmallTable, SmallWriter, close};
 use bulk::{BulkError, Desk, Open, bulk, bulk_plain, piece_start, seat_all};
 use fib::Fib;
+use lpm_bits::Hop;
 use lpm_limits::{Config, Refusal};
 use lpm_rules::{Put, Rule};
 use shared_fib::Bench;
@@ -35,11 +36,15 @@ static FIVE: [u32; 5] = [
 // The numbers of their next hops.
 static NUMBERS: [Option<u32>; 5] = [Some(2), Some(3), Some(1), None, Some(3)];
 
+// The next hops of the five addresses, as so many workers found them.
+fn assert_hops(rt: &impl Abort, workers: usize, hops: &[Option<Hop>]) {
+    assert_at(rt, (workers, "place"), other_hop(hops, &NUMBERS), None);
+}
+
 // The five addresses, by a table of one thread with so many workers.
 fn assert_five<R: Abort + Threads + Sync>(rt: &R, alloc: Global, fib: &Fib<24, 8>, workers: usize) {
     let answered = bulk_plain(rt, alloc, fib, workers, &FIVE, &Open);
-    let hops = answered.expect(rt, "answers");
-    assert_at(rt, (workers, "place"), other_hop(&hops, &NUMBERS), None);
+    assert_hops(rt, workers, &answered.expect(rt, "answers"));
 }
 
 // Among the numbers of workers are more than addresses, and far more.
@@ -54,6 +59,7 @@ fn pieces(rt: HostRuntime) {
     let mut fib = Fib::open(rt.alloc(), Config::default()).expect(&rt, "memory");
     add_three(&rt, &mut fib);
     assert_five_in_pieces(&rt, rt.alloc(), &fib);
+    drop(fib);
 }
 
 // Five addresses, in as many pieces as there are ends.
@@ -92,19 +98,18 @@ fn assert_five_at_desks<R: Abort + Threads + Sync>(
     let again = bulk(rt, alloc, table, writer, desks, &FIVE, &Open);
     match first {
         Ok(hops) => {
-            assert_at(rt, (workers, "place"), other_hop(&hops, &NUMBERS), None);
-            assert_at(rt, (workers, "place"), other_hop(&again?, &NUMBERS), None);
+            assert_hops(rt, workers, &hops);
+            assert_hops(rt, workers, &again?);
         }
         Err(error) => {
             assert_at(rt, workers, error, BulkError::Memory);
-            let hops = again.expect(rt, "answers");
-            assert_at(rt, (workers, "place"), other_hop(&hops, &NUMBERS), None);
+            assert_hops(rt, workers, &again.expect(rt, "answers"));
         }
     }
     Ok(())
 }
 
-// The five addresses, by a running table that has the rules, with so many workers.
+// The five addresses, by a running table that takes the rules, with so many workers.
 fn assert_five_by_desks<R: Abort + Threads + Sync>(
     rt: &R,
     alloc: Global,
@@ -117,6 +122,7 @@ fn assert_five_by_desks<R: Abort + Threads + Sync>(
     requires full { IsFullBench table.now bench.old }
     requires workers { workers ≡ table.now.initial.workers }
 {
+    add_rules(rt, table, writer)?;
     let mut desks = seat_all(alloc, table, bench, workers)?;
     assert_five_at_desks(rt, alloc, table, writer, &mut desks)?;
     Ok(())
@@ -133,8 +139,9 @@ fn five_by_a_running_table<R: Abort + Threads + Sync>(
         ..Config::default()
     };
     let (table, mut writer, mut bench) = shared_fib::open(alloc, config)?;
-    add_rules(rt, &table, &mut writer)?;
-    assert_five_by_desks(rt, alloc, &table, &mut writer, &mut bench, workers)
+    let answered = assert_five_by_desks(rt, alloc, &table, &mut writer, &mut bench, workers);
+    close(table, writer, bench);
+    answered
 }
 
 // Where a growth of the first call of `bulk` is refused (`tools/try_program.py` refuses each), the second one
@@ -172,6 +179,7 @@ fn assert_nothing<R: Abort + Threads + Sync>(rt: &R, alloc: Global, fib: &Fib<4,
 fn no_addresses_and_no_workers(rt: HostRuntime) {
     let fib = small(&rt, rt.alloc());
     assert_nothing(&rt, rt.alloc(), &fib);
+    drop(fib);
 }
 
 static EIGHT: [u32; 8] = [1, 2, 3, 4, 5, 6, 7, 8];
@@ -189,6 +197,7 @@ fn meet_by_a_table<R: Abort + Threads + Sync>(rt: &R, alloc: Global, fib: &Fib<4
 fn two_pieces_see_each_other(rt: HostRuntime) {
     let fib = small(&rt, rt.alloc());
     meet_by_a_table(&rt, rt.alloc(), &fib);
+    drop(fib);
 }
 
 // Two pieces of eight addresses, at these desks of a running table.
@@ -250,4 +259,5 @@ fn two_pieces_of_a_running_table_see_each_other(rt: HostRuntime) {
         &rt, "memory",
     );
     meet_by_a_running_table(&rt, alloc, &table, &mut writer, &mut bench);
+    close(table, writer, bench);
 }

@@ -1,7 +1,7 @@
 //! Grace periods that don't block.
 
 use super::{assert_at, limits};
-use saxiko::{Busy, Config, GracePeriod, Owner, Put};
+use saxiko::{Busy, Config, GracePeriod, Hop, Owner, Prefix, Put};
 use std::process::Abort;
 use test_support::{hop, prefix};
 
@@ -25,6 +25,19 @@ fn held(rt: &impl Abort, period: GracePeriod) -> GracePeriod {
     held.period
 }
 
+// A reader comes and goes while the period lasts.
+fn come_and_go(rt: &impl Abort, period: &mut GracePeriod) {
+    let reader = period.register(0).expect(rt, "register");
+    assert_at(rt, "second", reader.worker(), 0);
+    period.unregister(reader);
+}
+
+// The token of the period was the last one before the rule goes.
+fn delete(rt: &impl Abort, owner: &mut Owner, prefix: &Prefix, hop: Hop) {
+    let gone = (owner.token(), owner.delete(prefix));
+    assert_at(rt, "token, deleted", gone, (2, Ok(hop)));
+}
+
 #[test]
 fn a_grace_period_lasts_until_its_reader_has_reported(rt: HostRuntime) {
     let mut owner = Owner::open(rt.alloc(), limits()).expect(&rt, "open");
@@ -34,18 +47,17 @@ fn a_grace_period_lasts_until_its_reader_has_reported(rt: HostRuntime) {
     reader.online();
     let mut period = held(&rt, started(&rt, owner));
     assert_at(&rt, "found", reader.lookup(0x0a01_8081).hop, Some(hop));
-    let second = period.register(0).expect(&rt, "register");
-    assert_at(&rt, "second", second.worker(), 0);
-    period.unregister(second);
+    come_and_go(&rt, &mut period);
     let period = held(&rt, period);
     reader.quiescent();
     let mut owner = ended(&rt, period);
-    let gone = (owner.token(), owner.delete(&prefix));
-    assert_at(&rt, "token, deleted", gone, (2, Ok(hop)));
+    delete(&rt, &mut owner, &prefix, hop);
     reader.offline();
     let mut owner = ended(&rt, started(&rt, owner));
     let freed = (owner.token(), owner.reclaim(4).freed);
     assert_at(&rt, "token, freed", freed, (4, 1));
+    drop(reader);
+    drop(owner);
 }
 
 #[test]
@@ -60,4 +72,5 @@ fn a_grace_period_needs_a_token_for_each_group(rt: HostRuntime) {
     let mut owner = owner.start().err().expect(&rt, "exhausted").owner;
     let found = (owner.token(), owner.counts().free);
     assert_at(&rt, "token, free", found, (last + 1, 4));
+    drop(owner);
 }

@@ -28,6 +28,7 @@ fn a_large_table_answers(rt: HostRuntime) {
     let hops = [table.lookup(0x0000_0200), table.lookup(299_999 * 256 + 255)];
     let wanted = [Hop::new(2).ok(), Hop::new(299_999).ok()];
     assert_at(&rt, "table", (table.rules(), hops), (300_000, wanted));
+    drop(table);
 }
 
 fn opened_running(rt: &impl Abort, alloc: Global) -> Owner {
@@ -43,4 +44,6 @@ fn a_large_running_table_answers(rt: HostRuntime) {
     let found = reader.lookup(299_999 * 256 + 255).hop;
     let wanted = Hop::new(299_999).ok();
     assert_at(&rt, "table", (owner.rules(), found), (300_000, wanted));
+    drop(reader);
+    drop(owner);
 }

@@ -27,6 +27,7 @@ fn a_reader_holds_a_group_until_it_is_dropped(rt: HostRuntime) {
     add_and_delete(&rt, &mut owner, &mut reader);
     drop(reader);
     assert_at(&rt, "free", owner.reclaim(1).freed, 1);
+    drop(owner);
 }
 
 static ADDRS: [u32; 6] = [
@@ -74,6 +75,8 @@ fn a_burst_is_answered_between_two_versions(rt: HostRuntime) {
     let mut owner = opened.expect(&rt, "open").expect(&rt, "fits");
     let mut reader = owner.register(0).expect(&rt, "register");
     look_up(&rt, &mut owner, &mut reader);
+    drop(reader);
+    drop(owner);
 }
 
 #[test]
@@ -85,4 +88,5 @@ fn a_reader_is_handed_out_once(rt: HostRuntime) {
     assert_at(&rt, "refused", refused, wanted);
     owner.unregister(reader);
     assert_at(&rt, "again", owner.register(1).is_ok(), true);
+    drop(owner);
 }

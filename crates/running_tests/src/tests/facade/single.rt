@@ -25,6 +25,7 @@ fn add_and_delete(rt: &impl Abort, table: &mut Table) {
 fn a_table_answers(rt: HostRuntime) {
     let mut table = Table::open(rt.alloc(), limits()).expect(&rt, "open");
     add_and_delete(&rt, &mut table);
+    drop(table);
 }
 
 static ADDRS: [u32; 3] = [0x0a01_8081, 0x0b00_0000, 0x0a00_0000];
@@ -48,6 +49,7 @@ fn a_table_of_rules_answers_in_bulk(rt: HostRuntime) {
     let opened = Table::load(rt.alloc(), limits(), &rules);
     let table = opened.expect(&rt, "open").expect(&rt, "fits");
     look_up(&rt, &table, &rules);
+    drop(table);
 }
 
 // Texts of no prefix, and why.

@@ -73,6 +73,7 @@ fn a_table_is_walked_in_order(rt: HostRuntime) {
     add_all(&rt, &mut table, &rules);
     walk(&rt, &table, &rules);
     walk_between(&rt, &mut table, &rules[7], &rules[8]);
+    drop(table);
 }
 
 // The walk of a running table goes over these rules.
@@ -108,6 +109,7 @@ fn an_owner_walks_on_while_rules_change(rt: HostRuntime) {
     let mut owner = opened_running(&rt, rt.alloc(), &rules);
     walk_running(&rt, &owner, &rules);
     walk_on(&rt, &mut owner, rules[8], rules[9]);
+    drop(owner);
 }
 
 // As many steps as there are rules lead to the end.
@@ -127,4 +129,5 @@ fn a_walk_is_a_bounded_loop(rt: HostRuntime) {
     let opened = Table::load(rt.alloc(), Config::default(), &rules_in_order(&rt));
     let table = opened.expect(&rt, "open").expect(&rt, "fits");
     walk_bounded(&rt, &table);
+    drop(table);
 }
