@@ -95,6 +95,7 @@ fn routes(rt: &impl Abort, alloc: Global) -> Vec<Rule<24, 8>> {
 fn routes_at_once(rt: HostRuntime) {
     let mut fib = opened(&rt, rt.alloc(), LIMITS, &routes(&rt, rt.alloc()));
     assert_goes_on(&rt, &mut fib, 0);
+    drop(fib);
 }
 
 // Five changes lead to the routes, so the next one makes the sixth version.
@@ -102,6 +103,7 @@ fn routes_at_once(rt: HostRuntime) {
 fn routes_as_a_version(rt: HostRuntime) {
     let mut fib = opened_at(&rt, rt.alloc(), LIMITS, &routes(&rt, rt.alloc()), 5);
     assert_goes_on(&rt, &mut fib, 5);
+    drop(fib);
 }
 
 // At the greatest version no change is taken. A rule that is there is no change.
@@ -109,6 +111,7 @@ fn routes_as_a_version(rt: HostRuntime) {
 fn routes_as_the_greatest_version(rt: HostRuntime) {
     let mut fib = opened_at(&rt, rt.alloc(), LIMITS, &routes(&rt, rt.alloc()), 1 << 61);
     assert_full_of_versions(&rt, &mut fib);
+    drop(fib);
 }
 
 fn assert_full_of_versions(rt: &impl Abort, fib: &mut Fib<24, 8>) {
@@ -136,10 +139,7 @@ fn both_open(
 }
 
 fn is_opened(opened: Result<Option<Fib<4, 4>>, OpenError>) -> Result<bool, OpenError> {
-    match opened {
-        Ok(table) => Ok(table.is_some()),
-        Err(error) => Err(error),
-    }
+    opened.map(|table| table.is_some())
 }
 
 // This comes of both calls.
@@ -172,6 +172,7 @@ fn assert_full(rt: &impl Abort, alloc: Global, config: Config, refusal: Refusal)
     let mut full = small_table(rt, alloc, config, &DEEP);
     let refused = full.add(&prefix(0x60, 8), hop(9));
     assert_at(rt, config, refused, Err(refusal));
+    drop(full);
 }
 
 // A rule is refused by a table that opened with just as many as it may have.
@@ -195,6 +196,7 @@ fn no_routes(rt: HostRuntime) {
     let fib = small_table(&rt, rt.alloc(), LIMITS, &NO_RULES);
     assert_at(&rt, "figures", figures(&fib), (0, 0, 0, 0, 2, 7));
     assert_misses(&rt, &fib);
+    drop(fib);
 }
 
 // A table that opens with rules, and one to which they were added one after another.
@@ -264,6 +266,7 @@ fn assert_list<const FIRST: u32, const SECOND: u32>(
     both.assert_same(rt, &addrs);
     both.delete_some(rt, rules);
     both.assert_same(rt, &addrs);
+    drop(both);
 }
 
 fn assert_drawn<const FIRST: u32, const SECOND: u32>(

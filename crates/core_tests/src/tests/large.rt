@@ -92,6 +92,7 @@ fn rules(rt: &impl Abort, alloc: Global) -> Vec<Rule<24, 8>> {
 fn many_routes_at_once(rt: HostRuntime) {
     let fib = opened(&rt, rt.alloc(), MANY_LIMITS, &rules(&rt, rt.alloc()));
     assert_opened(&rt, &fib, 0);
+    drop(fib);
 }
 
 #[test]
@@ -99,4 +100,5 @@ fn many_routes_as_a_version(rt: HostRuntime) {
     let rules = rules(&rt, rt.alloc());
     let fib = opened_at(&rt, rt.alloc(), MANY_LIMITS, &rules, 300_000);
     assert_opened(&rt, &fib, 300_000);
+    drop(fib);
 }

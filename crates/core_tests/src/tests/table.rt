@@ -131,6 +131,7 @@ fn assert_case(rt: &impl Abort, alloc: Global, case: &Worked) {
     assert_computed(rt, alloc, case, &orders);
     let mut fib = Fib::open(alloc, case.config).expect(rt, "memory");
     assert_done(rt, alloc, case, &orders, &mut fib);
+    drop(fib);
 }
 
 #[test]
@@ -165,6 +166,7 @@ fn full_block(rt: HostRuntime) {
     assert_at(&rt, "figures", figures(&fib), (256, 256, 1, 0, 255, 1));
     let answers = "9.255.255.255 -\n10.0.0.77 9\n10.0.1.0 -\n";
     assert_answers(&rt, "full-block", &fib, answers);
+    drop(fib);
 }
 
 // A order to a small table: of 28 prefixes, four next hops, two workers and one that isn't there.
@@ -214,6 +216,7 @@ fn assert_drawn(rt: &impl Abort, alloc: Global, orders: &[Order<4, 4>]) {
     let mut fib = Fib::open(alloc, SMALL).expect(rt, "memory");
     assert_agrees(rt, alloc, SMALL, &mut fib, orders);
     assert_lookups(rt, &fib);
+    drop(fib);
 }
 
 // Draws five more orders.
@@ -273,6 +276,7 @@ fn lookups_of_three_routes(rt: HostRuntime) {
     let mut fib = Fib::open(rt.alloc(), Config::default()).expect(&rt, "memory");
     assert_added(&rt, &mut fib, &three_routes(&rt, rt.alloc()));
     assert_all_found(&rt, rt.alloc(), &fib);
+    drop(fib);
 }
 
 fn assert_replay(rt: &impl Abort, replay: &Replay) {
@@ -338,6 +342,7 @@ fn a_refusal_changes_nothing(rt: HostRuntime) -> Result<(), Fail> {
     assert_at(&rt, "cover", added, Ok(Put::Added));
     hold_a_group(&rt, &mut fib);
     assert_refused(&rt, &mut fib);
+    drop(fib);
     Ok(())
 }
 
@@ -362,5 +367,6 @@ fn assert_grows(rt: &impl Abort, fib: &mut Fib<4, 4>) {
 fn a_refused_growth(rt: HostRuntime) -> Result<(), Fail> {
     let mut fib = Fib::<4, 4>::open(rt.alloc(), limits(1_048_576, 2))?;
     assert_grows(&rt, &mut fib);
+    drop(fib);
     Ok(())
 }
