@@ -12,7 +12,7 @@ ghost use Rattle.std.specs.Prelude.{◌≡◌, ℕ, ◌+◌, ◌^◌, ◌<◌, �
 ghost use Rattle.std.specs.Prelude.{length, replicate, slice_index};
 ghost use Rattle.qsbr.specs.Laws.{OlderPasses, NoneHolds, OneIsFirst};
 
-use lpm_limits::Busy;
+pub use lpm_limits::{BadConfig, Busy, Config, Range, Refusal};
 use std::alloc::{AllocError, Global};
 use std::marker::Model;
 
