@@ -4,8 +4,8 @@ use Rattle.std.specs.FinMap.{empty}
 use Rattle.lpm_rules.specs.RuleMap.{RuleMap, network_cmp}
 use Rattle.lpm_limits.specs.declared.config.Config.{Config}
 use Rattle.lpm_rules.specs.declared.Change.{Change}
-use Rattle.lpm_trace.specs.declared.kind.Actor.{Actor}
-use Rattle.lpm_trace.specs.declared.kind.Deed.{Deed}
+use Rattle.lpm_trace.specs.declared.shown_step.Actor.{Actor}
+use Rattle.lpm_trace.specs.declared.deed.Deed.{Deed}
 use Rattle.lpm_trace.specs.declared.step.WriterStep.{WriterStep}
 use Rattle.lpm_trace.specs.Trace.{writes, worker_of, IsTrace, worker_by_step, FinishedLookup}
 use Rattle.interleave.specs.World.{HasEnded as ActorHasEnded, IsScheduled, writer_items, IsInitial, IsPlayedOut, WorldDid, Reaches, scripts_and_schedule, WorldDoes}

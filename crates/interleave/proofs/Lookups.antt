@@ -13,12 +13,12 @@ use Rattle.interleave.specs.declared.probe.Probe.TheVariants.{Unread, InGroup, A
 use Rattle.interleave.specs.Machine.{probe_of, probes_of, IsNextUnread, IsNextGrouped, Shows, Makes, ContinuesDeed, IsInRange, IsOf, phase_of}
 use Rattle.std.proofs.lemmas.List.Elements.{All-head, All-tail}
 use Rattle.lpm_cells.specs.declared.entry.Entry.{Entry}
-use Rattle.lpm_trace.specs.declared.kind.Step.{Step}
+use Rattle.lpm_trace.specs.declared.shown_step.Step.{Step}
 use Rattle.interleave.specs.declared.probe.Grouped.{Grouped}
 use Rattle.interleave.specs.declared.worker.Worker.{Worker as Machine}
 use Rattle.lpm_trace.specs.Trace as T
 use Rattle.lpm_trace.specs.declared.step.WorkerStep.TheVariants as step
-use Rattle.lpm_trace.specs.declared.kind.Kind.TheVariants as kind
+use Rattle.lpm_trace.specs.declared.shown_step.Kind.TheVariants as kind
 use Rattle.interleave.specs.declared.worker.Phase.TheVariants as phase
 
 -- The addresses of a lookup: which is next, and what a read leaves.

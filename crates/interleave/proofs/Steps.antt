@@ -3,14 +3,14 @@ use Rattle.std.proofs.Common.{◌≡◌, ℕ, ◌+◌, ◌*◌, ◌^◌, All, Li
 use Rattle.std.proofs.lemmas.List.Elements.{All-get_or, All-nil, All-cons}
 use Rattle.lpm_cells.specs.Words.{Words, IsWords, word_of}
 use Rattle.lpm_cells.specs.declared.entry.Entry.TheVariants.{Miss}
-use Rattle.lpm_trace.specs.declared.kind.Actor.{Actor}
-use Rattle.lpm_trace.specs.declared.kind.Deed.{Deed}
+use Rattle.lpm_trace.specs.declared.shown_step.Actor.{Actor}
+use Rattle.lpm_trace.specs.declared.deed.Deed.{Deed}
 use Rattle.lpm_trace.specs.States.{InitialState, TableState, addresses, done_at}
 use Rattle.interleave.specs.declared.worker.Worker.{Worker as Machine}
 use Rattle.interleave.specs.Scripts.{IsSound, IsSoundFrom, IsCut, GoesOn, BeginsWith}
 use Rattle.interleave.specs.View.{WorldView, script_at}
 use Rattle.interleave.specs.World.{WorldDid, AreAt, AreNew, IsInitial}
-use Rattle.lpm_trace.specs.declared.kind.Step.{Step}
+use Rattle.lpm_trace.specs.declared.shown_step.Step.{Step}
 use Rattle.lpm_trace.specs.Trace.{Worker, Phase, Offline, Online, IsBetweenDeeds, Unread, worker_by_step, MayRead}
 use Rattle.interleave.specs.Record.{step_of_worker, shown_by, finished_by}
 use Rattle.interleave.specs.Machine.{Shows, BeginsDeed, is_online, phase_of, probes_of, ContinuesDeed, IsAt, IsOf, IsInRange, IsNoted, Advances}
@@ -18,8 +18,8 @@ use Rattle.std.proofs.lemmas.List.{append-nil, append_assoc, get_or_at, length-a
 use Rattle.lpm_trace.specs.declared.step.WorkerStep.{WorkerStep}
 use Rattle.interleave.specs.declared.finished_lookups.Seen.{Seen as Noted}
 use Rattle.interleave.proofs.Ranges.{kept}
-use Rattle.lpm_trace.specs.declared.kind.Deed.TheVariants as deed
-use Rattle.lpm_trace.specs.declared.kind.Kind.TheVariants as kind
+use Rattle.lpm_trace.specs.declared.deed.Deed.TheVariants as deed
+use Rattle.lpm_trace.specs.declared.shown_step.Kind.TheVariants as kind
 use Rattle.lpm_trace.specs.declared.step.WorkerStep.TheVariants as step
 use Rattle.interleave.specs.declared.probe.Probe.TheVariants as probe
 use Rattle.interleave.specs.declared.worker.Phase.TheVariants as phase

@@ -3,7 +3,7 @@ use Rattle.std.proofs.Common.{ℕ, map, ◌≡◌, ◌≢◌, suc, ◌<◌, ◌�
 use Rattle.interleave.specs.declared.world_memory.WorldMemory.TheInside.{Inside}
 use Rattle.interleave.specs.View.{WorldView, script_at}
 use Rattle.std.proofs.lemmas.Bool.{cases_lt}
-use Rattle.lpm_trace.specs.declared.kind.Actor.TheVariants.{Writer as WriterActor}
+use Rattle.lpm_trace.specs.declared.shown_step.Actor.TheVariants.{Writer as WriterActor}
 use Rattle.lpm_trace.specs.declared.step.WriterStep.{WriterStep}
 use Rattle.lpm_trace.specs.declared.step.TraceStep.{TraceStep}
 use Rattle.lpm_trace.specs.declared.step.TraceStep.TheVariants.{Writer, Worker as ByWorker}

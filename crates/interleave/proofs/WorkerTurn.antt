@@ -4,10 +4,10 @@ use Rattle.std.specs.Prelude.{slice_set, ⊤}
 use Rattle.std.proofs.lemmas.List.{length-set, length-append, length-map, length-reverse, append-nil}
 use Rattle.std.proofs.lemmas.Bool.Decides.{eqb_tells}
 use Rattle.lpm_cells.specs.Words.{Words, with_first, with_second}
-use Rattle.lpm_trace.specs.declared.kind.Actor.{Actor}
-use Rattle.lpm_trace.specs.declared.kind.Actor.TheVariants.{Worker as WorkerActor, Writer as WriterActor}
-use Rattle.lpm_trace.specs.declared.kind.Deed.{Deed}
-use Rattle.lpm_trace.specs.declared.kind.Step.{Step}
+use Rattle.lpm_trace.specs.declared.shown_step.Actor.{Actor}
+use Rattle.lpm_trace.specs.declared.shown_step.Actor.TheVariants.{Worker as WorkerActor, Writer as WriterActor}
+use Rattle.lpm_trace.specs.declared.deed.Deed.{Deed}
+use Rattle.lpm_trace.specs.declared.shown_step.Step.{Step}
 use Rattle.lpm_trace.specs.declared.step.WriterStep.{WriterStep}
 use Rattle.lpm_trace.specs.declared.step.WriterStep.TheVariants.{StoreFirst, StoreSecond, BeginUpdate, EndUpdate, BumpToken, LoadCounter}
 use Rattle.lpm_trace.specs.declared.step.WorkerStep.{WorkerStep}

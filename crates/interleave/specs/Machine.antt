@@ -2,8 +2,8 @@
 -- and what one more step does (this project's; a worker's steps are those of its deeds, in order).
 use Rattle.std.specs.Prelude.{◌≡◌, ℕ, ◌+◌, ◌*◌, ◌^◌, ◌<◌, ◌≤◌, ⊤, Bool, true, false, All, List, [], ◌∷◌, ◌++◌, length, map, reverse, vec_len, vec_capacity}
 use Rattle.lpm_cells.specs.Words.{entry_in, hop_in, Words}
-use Rattle.lpm_trace.specs.declared.kind.Deed.{Deed}
-use Rattle.lpm_trace.specs.declared.kind.Step.{Step}
+use Rattle.lpm_trace.specs.declared.deed.Deed.{Deed}
+use Rattle.lpm_trace.specs.declared.shown_step.Step.{Step}
 use Rattle.lpm_trace.specs.declared.step.WorkerStep.{WorkerStep}
 use Rattle.lpm_trace.specs.States.{InitialState, TableState, addresses}
 use Rattle.lpm_trace.specs.Trace.{Worker, Phase, Probe, Unread, InGroup, Answered, Offline, ComingOnline, Online, LookingUp, ReportingQuiescent, AreBegun, AreAnswered, worker_by_step, MayRead}

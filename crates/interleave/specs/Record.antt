@@ -1,9 +1,9 @@
 -- Meaning: what a run shows of a trace: each step, and each finished lookup (this project's: a step is
 -- one load or one store of one word, told with its actor, its kind, its index and its value).
 use Rattle.std.specs.Prelude.{ℕ, ◌+◌, ◌*◌, ◌/◌, ◌%◌, ◌^◌, List, [], ◌∷◌, suc, ◌++◌, ◌==◌, map, reverse}
-use Rattle.lpm_trace.specs.declared.kind.Actor.TheVariants.{Worker as WorkerActor, Writer as WriterActor}
-use Rattle.lpm_trace.specs.declared.kind.Kind.{Kind}
-use Rattle.lpm_trace.specs.declared.kind.Step.{Step}
+use Rattle.lpm_trace.specs.declared.shown_step.Actor.TheVariants.{Worker as WorkerActor, Writer as WriterActor}
+use Rattle.lpm_trace.specs.declared.shown_step.Kind.{Kind}
+use Rattle.lpm_trace.specs.declared.shown_step.Step.{Step}
 use Rattle.lpm_trace.specs.declared.step.WorkerStep.{WorkerStep}
 use Rattle.lpm_trace.specs.declared.step.WorkerStep.TheVariants.{LoadOnline, StoreOnline, LoadQuiescent, StoreQuiescent, StoreOffline, BeginLookup, LoadFirst, LoadSecond, EndLookup, MeetWriter}
 use Rattle.lpm_trace.specs.States.{InitialState, begun_at}
@@ -14,7 +14,7 @@ use Rattle.lpm_trace.specs.declared.step.WriterStep.{WriterStep}
 use Rattle.lpm_trace.specs.declared.step.WriterStep.TheVariants.{StoreFirst, StoreSecond, BeginUpdate, EndUpdate, BumpToken, LoadCounter}
 use Rattle.lpm_trace.specs.declared.step.TraceStep.{TraceStep}
 use Rattle.lpm_trace.specs.declared.step.TraceStep.TheVariants.{Writer, Worker as ByWorker}
-use Rattle.lpm_trace.specs.declared.kind.Kind.TheVariants as kind
+use Rattle.lpm_trace.specs.declared.shown_step.Kind.TheVariants as kind
 
 -- What a run shows of a worker's steps and of its lookups (this project's: each step is one load or
 -- one store of one word, told with its index and its value).

@@ -21,8 +21,8 @@ use Rattle.lpm_writer.specs.GroupsMatch.{IsLimbo}
 use Rattle.interleave.specs.declared.reply.Reply.{Reply}
 use Rattle.interleave.specs.declared.reply.Reply.TheVariants.{Put, Deleted, Flushed, Reclaimed, Synchronized, Refused}
 use Rattle.lpm_limits.specs.Limits.{IsConfig}
-use Rattle.lpm_trace.specs.declared.kind.Actor.{Actor}
-use Rattle.lpm_trace.specs.declared.kind.Deed.{Deed}
+use Rattle.lpm_trace.specs.declared.shown_step.Actor.{Actor}
+use Rattle.lpm_trace.specs.declared.deed.Deed.{Deed}
 use Rattle.lpm_trace.specs.declared.step.TraceStep.{TraceStep}
 use Rattle.lpm_trace.specs.declared.step.TraceStep.TheVariants.{Writer}
 use Rattle.lpm_trace.specs.Trace.{IsTrace, writes, worker_of}

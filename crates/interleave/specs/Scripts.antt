@@ -2,8 +2,8 @@
 -- of (DPDK Programmer's Guide, "RCU Library": a reader comes online, reports quiescent states and goes
 -- offline; Gupta, Lin and McKeown, INFOCOM 1998, section 3: a lookup reads one word or two).
 use Rattle.std.specs.Prelude.{◌≡◌, ℕ, ◌<◌, ◌⊎◌, ⊤, Bool, true, false, if◌then◌else◌, ◌==◌, All, List, [], ◌∷◌, ◌++◌, reverse}
-use Rattle.lpm_trace.specs.declared.kind.Deed.{Deed}
-use Rattle.lpm_trace.specs.declared.kind.Deed.TheVariants.{Online, Offline, Quiescent, Lookup, Lookup4, Meet}
+use Rattle.lpm_trace.specs.declared.deed.Deed.{Deed}
+use Rattle.lpm_trace.specs.declared.deed.Deed.TheVariants.{Online, Offline, Quiescent, Lookup, Lookup4, Meet}
 use Rattle.lpm_trace.specs.declared.step.WorkerStep.{WorkerStep}
 use Rattle.lpm_trace.specs.declared.step.WorkerStep.TheVariants.{LoadOnline, StoreOnline, LoadQuiescent, StoreQuiescent, StoreOffline, BeginLookup, LoadFirst, LoadSecond, EndLookup, MeetWriter}
 use Rattle.lpm_trace.specs.declared.step.TraceStep.{TraceStep}

@@ -1,9 +1,9 @@
 -- This layer's own: what a memory of the pure world holds (this project's).
 use Rattle.std.specs.Prelude.{◌≡◌, ℕ, ◌*◌, ◌^◌, ◌<◌, ◌≤◌, List, [], slice_index_or, Bool}
 use Rattle.lpm_cells.specs.Words.{Words}
-use Rattle.lpm_trace.specs.declared.kind.Actor.{Actor}
-use Rattle.lpm_trace.specs.declared.kind.Deed.{Deed}
-use Rattle.lpm_trace.specs.declared.kind.Step.{Step}
+use Rattle.lpm_trace.specs.declared.shown_step.Actor.{Actor}
+use Rattle.lpm_trace.specs.declared.deed.Deed.{Deed}
+use Rattle.lpm_trace.specs.declared.shown_step.Step.{Step}
 use Rattle.interleave.specs.declared.finished_lookups.Seen.{Seen}
 use Rattle.interleave.specs.declared.worker.Worker.{Worker as Machine}
 

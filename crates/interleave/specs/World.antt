@@ -2,14 +2,14 @@
 -- made this trace, and what the writer has done since the schedule ended comes after it (this
 -- project's: a schedule names who makes the next step).
 use Rattle.std.specs.Prelude.{◌≡◌, ℕ, suc, ◌≤◌, ◌⊎◌, ⊤, List, [], ◌∷◌, ◌≢◌, ◌+◌, ◌*◌, ◌^◌, ◌<◌, Option, Some, None, ◌++◌, length, map, reverse, take, replicate, slice_index_or, true, false}
-use Rattle.lpm_trace.specs.declared.kind.Actor.{Actor}
-use Rattle.lpm_trace.specs.declared.kind.Actor.TheVariants.{Writer as WriterActor, Worker as WorkerActor}
-use Rattle.lpm_trace.specs.declared.kind.Deed.{Deed}
+use Rattle.lpm_trace.specs.declared.shown_step.Actor.{Actor}
+use Rattle.lpm_trace.specs.declared.shown_step.Actor.TheVariants.{Writer as WriterActor, Worker as WorkerActor}
+use Rattle.lpm_trace.specs.declared.deed.Deed.{Deed}
 use Rattle.lpm_trace.specs.declared.step.TraceStep.{TraceStep}
 use Rattle.lpm_trace.specs.declared.step.TraceStep.TheVariants.{Writer, Worker as ByWorker}
 use Rattle.lpm_trace.specs.Trace.{worker_of, IsTrace, writes, initial_worker}
 use Rattle.interleave.specs.Scripts.{IsScripted, IsDone, steps_by, IsSound}
-use Rattle.lpm_trace.specs.declared.kind.Step.{Step}
+use Rattle.lpm_trace.specs.declared.shown_step.Step.{Step}
 use Rattle.lpm_trace.specs.declared.step.WriterStep.{WriterStep}
 use Rattle.lpm_cells.specs.Words.{word_of}
 use Rattle.lpm_cells.specs.declared.entry.Entry.TheVariants.{Miss}

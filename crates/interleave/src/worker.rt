@@ -3,8 +3,8 @@
 ghost use Rattle.std.specs.Prelude.{◌≡◌, ℕ, ◌+◌, ◌*◌, ◌/◌, ◌%◌, ◌^◌, ◌<◌, ◌≤◌, List, [], ◌∷◌, All, map, length, slice_index, vec_len, vec_capacity, IfNone, IfSome, IfOk};
 ghost use Rattle.lpm_bits.specs.Widths.{IsShape};
 ghost use Rattle.lpm_cells.specs.Words.{HasRoom, IsWords};
-ghost use Rattle.lpm_trace.specs.declared.kind.Deed.{Deed};
-ghost use Rattle.lpm_trace.specs.declared.kind.Kind.TheVariants as kind;
+ghost use Rattle.lpm_trace.specs.declared.deed.Deed.{Deed};
+ghost use Rattle.lpm_trace.specs.declared.shown_step.Kind.TheVariants as kind;
 ghost use Rattle.lpm_trace.specs.declared.step.WorkerStep.{WorkerStep};
 ghost use Rattle.lpm_trace.specs.declared.step.WorkerStep.TheVariants.{LoadFirst, LoadSecond};
 ghost use Rattle.lpm_trace.specs.States.{InitialState, TableState, addresses, done_at};

@@ -1,9 +1,9 @@
 //! The shared words, the workers, the schedule and the record of a run.
 
 ghost use Rattle.std.specs.Prelude.{◌≡◌, suc, true, ◌+◌, ◌<◌, ◌≤◌, ◌↔◌, Option, Some, List, [], ◌∷◌, ◌++◌, IsTrue, MatchBool, length, slice_index_or, vec_len, vec_capacity};
-ghost use Rattle.lpm_trace.specs.declared.kind.Actor.{Actor};
-ghost use Rattle.lpm_trace.specs.declared.kind.Actor.TheVariants.{Worker as WorkerActor};
-ghost use Rattle.lpm_trace.specs.declared.kind.Kind.TheVariants as kind;
+ghost use Rattle.lpm_trace.specs.declared.shown_step.Actor.{Actor};
+ghost use Rattle.lpm_trace.specs.declared.shown_step.Actor.TheVariants.{Worker as WorkerActor};
+ghost use Rattle.lpm_trace.specs.declared.shown_step.Kind.TheVariants as kind;
 ghost use Rattle.lpm_trace.specs.declared.step.TraceStep.{TraceStep};
 ghost use Rattle.lpm_trace.specs.declared.step.WriterStep.{WriterStep};
 ghost use Rattle.lpm_trace.specs.States.{InitialState};

@@ -1,9 +1,11 @@
 //! The traces of one writer and its workers, step by step, and the law of each of them.
 #![tactic(auto)]
 
-mod kind;
+mod deed;
 pub mod laws;
+mod shown_step;
 mod step;
 
-pub use kind::{Actor, Deed, Kind, Step};
+pub use deed::Deed;
+pub use shown_step::{Actor, Kind, Step};
 pub use step::{RuleChange, TraceStep, WorkerStep, WriterStep};

@@ -1,6 +1,6 @@
 -- This layer's own: plans of runs (this project's).
 use Rattle.std.specs.Prelude.{◌≡◌, ℕ, ◌+◌, ◌^◌, ◌≤◌, All, List, length}
-use Rattle.lpm_trace.specs.declared.kind.Deed.{Deed}
+use Rattle.lpm_trace.specs.declared.deed.Deed.{Deed}
 use Rattle.interleave.specs.Scripts.{IsSound}
 use Rattle.test_support.specs.declared.plans.plan.Plan.{Plan}
 

@@ -2,7 +2,7 @@
 
 ghost use Rattle.std.specs.Prelude.{◌≡◌, ◌+◌, ◌^◌, ◌≤◌, All, IfOk, List, ◌∷◌, length};
 ghost use Rattle.lpm_bits.specs.Widths.{IsShape};
-ghost use Rattle.lpm_trace.specs.declared.kind.Deed.{Deed};
+ghost use Rattle.lpm_trace.specs.declared.deed.Deed.{Deed};
 ghost use Rattle.interleave.specs.Scripts.{IsSound, IsSoundFrom};
 ghost use Rattle.test_support.specs.Plans.{HasDeeds};
 

@@ -1,5 +1,5 @@
 use Rattle.std.proofs.Common.{[], ◌∷◌, ◌++◌, ap, ◌∙◌, add-one}
-use Rattle.lpm_trace.specs.declared.kind.Kind.TheVariants as kind
+use Rattle.lpm_trace.specs.declared.shown_step.Kind.TheVariants as kind
 use Rattle.lpm_trace.specs.declared.step.WriterStep.TheVariants.{BumpToken}
 use Rattle.interleave.specs.Record.{step_of_writer}
 use Rattle.interleave.specs.View.{WorldView}

@@ -1,7 +1,7 @@
 use Rattle.std.proofs.Common.{◌≡◌, ◌/◌, ◌^◌, slice_index, refl, ap, ◌∙◌, subst}
 use Rattle.lpm_cells.specs.Words.{entry_in}
 use Rattle.lpm_trace.specs.Trace.{read_first}
-use Rattle.lpm_trace.specs.declared.kind.Kind.TheVariants as kind
+use Rattle.lpm_trace.specs.declared.shown_step.Kind.TheVariants as kind
 use Rattle.interleave.specs.Machine.{probe_of}
 use Rattle.interleave.specs.Record.{step_of_worker}
 use Rattle.interleave.proofs.Lookups.{first_made}

@@ -1,6 +1,6 @@
 use Rattle.std.proofs.Common.{arith, ◌≡◌, ◌+◌, ◌*◌, ◌%◌, ◌^◌, ◌<◌, slice_index, refl, ap, ◌∙◌}
 use Rattle.std.proofs.lemmas.Nat.{shl_whole}
-use Rattle.lpm_trace.specs.declared.kind.Kind.TheVariants as kind
+use Rattle.lpm_trace.specs.declared.shown_step.Kind.TheVariants as kind
 use Rattle.interleave.specs.Record.{step_of_worker}
 use Rattle.interleave.proofs.Lookups.{second_made}
 use Rattle.interleave.proofs.worker.Worker.read_second.Goals as goal

@@ -1,5 +1,5 @@
 use Rattle.std.proofs.Common.{rules, ◌≡◌, ◌+◌, ◌<◌, length, get_or, refl, ap, sym, subst, ◌∙◌, Some, arith, add-one}
-use Rattle.lpm_trace.specs.declared.kind.Actor.TheVariants.{Writer as WriterActor, Worker as WorkerActor}
+use Rattle.lpm_trace.specs.declared.shown_step.Actor.TheVariants.{Writer as WriterActor, Worker as WorkerActor}
 use Rattle.interleave.specs.View.{WorldView}
 use Rattle.interleave.specs.World.{IsWritersTurn, StaysShared}
 use Rattle.interleave.proofs.Turns.{view_in, PlaysOn, shared_more, within, plays_start, plays_turn, plays_pass, plays_end}

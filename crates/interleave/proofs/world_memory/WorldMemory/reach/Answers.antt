@@ -1,5 +1,5 @@
 use Rattle.std.proofs.Common.{rules, ◌≡◌, ◌<◌, length, get_or, refl, subst, ap, ◌∙◌, None, arith}
-use Rattle.lpm_trace.specs.declared.kind.Actor.TheVariants.{Writer as WriterActor, Worker as WorkerActor}
+use Rattle.lpm_trace.specs.declared.shown_step.Actor.TheVariants.{Writer as WriterActor, Worker as WorkerActor}
 use Rattle.interleave.specs.World.{writer_items, IsWritersTurn}
 use Rattle.interleave.specs.View.{WorldView}
 use Rattle.interleave.proofs.Items.{item_there}

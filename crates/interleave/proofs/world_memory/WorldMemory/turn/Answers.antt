@@ -1,7 +1,7 @@
 use Rattle.std.proofs.Common.{◌≡◌, ◌+◌, ◌^◌, ◌<◌, ◌≤◌, [], vec_len, vec_capacity, length, get_or, refl, sym, ap, subst, ◌∙◌, inl, inr, arith, suc, add-one}
 use Rattle.std.specs.Prelude.{slice_set}
 use Rattle.std.proofs.lemmas.List.{length-map, get_or-map, set-get_or}
-use Rattle.lpm_trace.specs.declared.kind.Actor.TheVariants.{Worker as WorkerActor}
+use Rattle.lpm_trace.specs.declared.shown_step.Actor.TheVariants.{Worker as WorkerActor}
 use Rattle.lpm_trace.specs.States.{state_after}
 use Rattle.lpm_trace.specs.Trace.{writes, worker_of}
 use Rattle.interleave.specs.Scripts.{IsDone, steps_by}

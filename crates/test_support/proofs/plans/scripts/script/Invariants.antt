@@ -1,5 +1,5 @@
 use Rattle.std.proofs.Common.{◌≡◌, ◌+◌, ◌^◌, List, ◌++◌, length}
-use Rattle.lpm_trace.specs.declared.kind.Deed.{Deed}
+use Rattle.lpm_trace.specs.declared.deed.Deed.{Deed}
 use Rattle.interleave.specs.Scripts.{IsSound, IsSoundFrom}
 use Rattle.test_support.proofs.plans.scripts.script.Given as goal
 
