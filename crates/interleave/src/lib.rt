@@ -1,11 +1,11 @@
 //! The pure world: one writer and its workers, who make their steps by a schedule.
 #![tactic(auto)]
 
+mod changes;
 mod finished_lookups;
 mod initial;
 pub mod laws;
 mod memory;
-mod outcomes;
 mod probe;
 mod reply;
 mod run_error;

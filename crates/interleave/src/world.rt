@@ -10,7 +10,7 @@ ghost use Rattle.interleave.specs.View.{script_at};
 ghost use Rattle.interleave.specs.declared.run_error.RunError.TheVariants.{BadConfig as IsBadConfig, Memory as IsMemory};
 ghost use Rattle.interleave.specs.Runs.{IsRun};
 
-use super::outcomes::answer_all;
+use super::changes::answer_all;
 use super::{RunError, Trace};
 use crate::WorldMemory;
 use lpm_limits::Config;

@@ -9,9 +9,9 @@ use Rattle.interleave.specs.declared.reply.Reply.{Reply}
 use Rattle.interleave.proofs.Items.{items_few}
 use Rattle.interleave.proofs.Turns.{scripts_stay}
 use Rattle.interleave.proofs.Ends.{Comes, HasAnswered, HasEnded, HasCome, IsLate, comes, ends_all, ends_before}
-use Rattle.interleave.proofs.outcomes.answer_all.Given.{Over}
-use Rattle.interleave.proofs.outcomes.answer_all.Goals.{In_ok-reply}
-use Rattle.interleave.proofs.outcomes.answer_all.Goals as goal
+use Rattle.interleave.proofs.changes.answer_all.Given.{Over}
+use Rattle.interleave.proofs.changes.answer_all.Goals.{In_ok-reply}
+use Rattle.interleave.proofs.changes.answer_all.Goals as goal
 
 split : {A : Type 0} (xs : List A) (i : ℕ) (x : A) → i < length xs → x ≡ get_or xs i x → take i xs ++ x ∷ drop (suc i) xs ≡ xs
 split xs i x low is = ap (λ y. take i xs ++ y ∷ drop (suc i) xs) is ∙ ap (λ ys. take i xs ++ ys) (sym (drop-cons xs i x low)) ∙ take-append-drop i xs

@@ -1,7 +1,7 @@
 use Rattle.std.proofs.Common.{◌≡◌, take}
 use Rattle.interleave.specs.World.{scripts_and_schedule}
 use Rattle.interleave.proofs.Ends.{HasAnswered}
-use Rattle.interleave.proofs.outcomes.answer_all.Given as goal
+use Rattle.interleave.proofs.changes.answer_all.Given as goal
 
 abbrev pub invariant-loop-change : goal.invariant-loop-change
 invariant-loop-change g l = record {

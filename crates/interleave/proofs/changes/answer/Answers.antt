@@ -11,8 +11,8 @@ use Rattle.interleave.specs.World.{WorldDid, scripts_and_schedule}
 use Rattle.interleave.specs.declared.reply.Reply.{Reply}
 use Rattle.interleave.specs.Runs.{Answers}
 use Rattle.interleave.proofs.Ends.{ScriptsAndSchedule, does_in, stays}
-use Rattle.interleave.proofs.outcomes.answer.Goals as goal
-use Rattle.interleave.proofs.outcomes.answer.Goals.{in-Add+in-Ok, in-Add+in-Err+in_default, in-Delete+in-Ok-delete_rule, in-Delete+in-Err-delete_rule, in-Flush+in-Ok-flush_rules, in-Flush+in-Err-flush_rules, in-Reclaim}
+use Rattle.interleave.proofs.changes.answer.Goals as goal
+use Rattle.interleave.proofs.changes.answer.Goals.{in-Add+in-Ok, in-Add+in-Err+in_default, in-Delete+in-Ok-delete_rule, in-Delete+in-Err-delete_rule, in-Flush+in-Ok-flush_rules, in-Flush+in-Err-flush_rules, in-Reclaim}
 
 carried : {K M L : Type 0} (P : K → M → L → Reply → Type 0) {k k' : K} {m m' : M} {l l' : L} {r r' : Reply}
     → k' ≡ k → m' ≡ m → l' ≡ l → r' ≡ r → P k m l r → P k' m' l' r'
