@@ -1,3 +1,5 @@
+//! What holds a token back.
+
 use std::error::Error;
 use std::fmt;
 

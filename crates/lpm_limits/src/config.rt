@@ -1,3 +1,5 @@
+//! The limits of a table.
+
 ghost use Rattle.std.specs.Prelude.{◌↔◌, ◌≡◌, IsOk, IsTrue};
 ghost use Rattle.lpm_limits.specs.Limits.{IsConfig, IsIn, default_config};
 

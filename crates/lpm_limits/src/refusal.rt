@@ -1,3 +1,5 @@
+//! Why a call is refused.
+
 ghost use Rattle.std.specs.Prelude.{◌≡◌};
 ghost use Rattle.lpm_limits.specs.Refusals.{row_of};
 ghost use Rattle.lpm_limits.specs.declared.refusal.Refusal.TheVariants.{Memory as IsMemory};

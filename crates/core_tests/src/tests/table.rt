@@ -169,7 +169,7 @@ fn full_block(rt: HostRuntime) {
     drop(fib);
 }
 
-// A order to a small table: of 28 prefixes, four next hops, two workers and one that isn't there.
+// An order to a small table: of 28 prefixes, four next hops, two workers and one that isn't there.
 fn draw_order(seed: &mut u32) -> Order<4, 4> {
     let kind = draw(seed) % 20;
     let number = draw(seed) % 3;
